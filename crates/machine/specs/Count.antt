@@ -1,0 +1,40 @@
+-- The five places, counted: free, in links, in hands, in handovers, carried. "The count of the five places on an unsound state is refused
+-- 19 with five zeros."
+use Prim.Native.Nat.{ℕ, _+_}
+use mathlib.Core.Bool.{Bool, cond, not}
+use mathlib.Core.List.{List, [], _∷_}
+use lib.Dec.{eqb}
+use Rattle.machine.specs.declared.State.{State}
+use Rattle.machine.specs.declared.Places.{Places}
+use Rattle.machine.specs.declared.Counted.{Counted}
+use Rattle.machine.specs.declared.Verdict.the-variants.{Good, Refused}
+use Rattle.machine.specs.Phases.{carriedBy}
+use Rattle.machine.specs.Soundness.{bit, sound}
+
+-- how many elements pass the test
+unfoldable pub howMany : {A : Type 0} → (A → Bool) → List A → ℕ
+howMany test [] = 0
+howMany test (x ∷ xs) = bit (test x) + howMany test xs
+
+-- "0 means no object"
+abbrev pub some : ℕ → Bool
+some object = not (eqb object 0)
+
+unfoldable pub placesOf : State → Places
+placesOf s =
+    record {
+      free = howMany (λ free. free) (s .free);
+      links = howMany some (s .links);
+      hands = howMany (λ thread. some (thread .hand)) (s .threads);
+      handovers = howMany (λ slot. some (slot .handover)) (s .slots);
+      carried = howMany (λ thread. some (carriedBy (thread .phase))) (s .threads);
+    }
+
+abbrev pub noPlaces : Places
+noPlaces = record { free = 0; links = 0; hands = 0; handovers = 0; carried = 0 }
+
+unfoldable pub countOf : State → Counted
+countOf s =
+    cond (sound s)
+    (record { places = placesOf s; verdict = Good })
+    (record { places = noPlaces; verdict = Refused 19 })

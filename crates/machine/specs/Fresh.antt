@@ -1,0 +1,45 @@
+-- "A fresh machine has every object free, tags 0, all else 0 and idle." "Starting with a size out of range is refused 20 and returns the
+-- blank state."
+use Prim.Native.Nat.{ℕ, _-_}
+use mathlib.Core.Bool.{Bool, true, false, cond}
+use mathlib.Core.List.{List, _++_}
+use lib.ListN.{replicate}
+use Rattle.machine.specs.declared.Sizes.{Sizes}
+use Rattle.machine.specs.declared.State.{State}
+use Rattle.machine.specs.declared.Started.{Started}
+use Rattle.machine.specs.declared.Verdict.the-variants.{Good, Refused}
+use Rattle.machine.specs.Sizes.{inRange}
+use Rattle.machine.specs.Parts.{idleThread, emptySlot}
+
+-- the free marks of which the first n are on
+unfoldable pub marked : ℕ → List Bool
+marked n = replicate n true ++ replicate (240 - n) false
+
+unfoldable pub freshOf : Sizes → State
+freshOf z =
+    record {
+      sizes = z;
+      links = replicate 16 0;
+      threads = replicate 8 idleThread;
+      slots = replicate 32 emptySlot;
+      free = marked (z .objects);
+      tags = replicate 240 0;
+    }
+
+-- "The blank state, all sizes and entries 0, idle and unmarked"
+unfoldable pub blank : State
+blank =
+    record {
+      sizes = record { threads = 0; slots = 0; links = 0; objects = 0 };
+      links = replicate 16 0;
+      threads = replicate 8 idleThread;
+      slots = replicate 32 emptySlot;
+      free = replicate 240 false;
+      tags = replicate 240 0;
+    }
+
+unfoldable pub startOf : Sizes → Started
+startOf z =
+    cond (inRange z)
+    (record { state = freshOf z; verdict = Good })
+    (record { state = blank; verdict = Refused 20 })

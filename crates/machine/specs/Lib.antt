@@ -1,0 +1,12 @@
+-- Document 01 as definitions, one file for each part of its text, in its order.
+pub mod Sizes
+pub mod Parts
+pub mod Phases
+pub mod Soundness
+pub mod Fresh
+pub mod Calls
+pub mod GoOn
+pub mod Answers
+pub mod Refusals
+pub mod Step
+pub mod Count
