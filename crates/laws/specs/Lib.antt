@@ -1,0 +1,3 @@
+pub mod First
+pub mod Laws
+pub mod Lemmas

@@ -1,0 +1,1 @@
+// No code: what holds of every call of the machine's definitions is stated and proved in specs/.
