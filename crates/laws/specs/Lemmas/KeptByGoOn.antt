@@ -24,20 +24,20 @@ use Rattle.laws.specs.Lemmas.KeptByCalls.{thread-eight, its-hand, its-ph
 
 module _ (s : State) (h : Sound s) (t : ℕ) (less : t < s .sizes .threads) where
   -- the thread's phase, where it is known to be this one
-  in-phase : (phase : Phase) → phaseOf s t ≡ phase → phaseInRange (s .sizes) phase ≡ true
+  pub in-phase : (phase : Phase) → phaseOf s t ≡ phase → phaseInRange (s .sizes) phase ≡ true
   in-phase phase e = rw e at (its-phase s h t less)
 
   carries : (phase : Phase) → phaseOf s t ≡ phase → carriedBy (phaseOf s t) ≡ carriedBy phase
   carries phase e = ap carriedBy e
 
-  publish-kept : (slot link object : ℕ) → phaseOf s t ≡ Loaded slot link object → Sound ((publishOf s t slot link object) .state)
+  pub publish-kept : (slot link object : ℕ) → phaseOf s t ≡ Loaded slot link object → Sound ((publishOf s t slot link object) .state)
   unfolding publishOf carriedBy
   publish-kept slot link object e =
       let f = loaded-facts (s .sizes) slot link object (in-phase (Loaded slot link object) e) in
       hold-kept s h t less slot object false (Published slot link) (f .0) (f .2) (λ m z. false≢true m)
       (carries (Loaded slot link object) e) refl (published-good (s .sizes) slot link (f .0) (f .1))
 
-  confirm-kept : (slot link : ℕ) → phaseOf s t ≡ Published slot link → Sound ((confirmOf s t slot link) .state)
+  pub confirm-kept : (slot link : ℕ) → phaseOf s t ≡ Published slot link → Sound ((confirmOf s t slot link) .state)
   unfolding confirmOf carriedBy
   confirm-kept slot link e =
       let f = published-facts (s .sizes) slot link (in-phase (Published slot link) e) in
@@ -89,7 +89,7 @@ module _ (s : State) (h : Sound s) (t : ℕ) (less : t < s .sizes .threads) wher
             omega arith;
       }
 
-  drain-kept : (slot : ℕ) → phaseOf s t ≡ Draining slot → Sound ((drainOf s t slot) .state)
+  pub drain-kept : (slot : ℕ) → phaseOf s t ≡ Draining slot → Sound ((drainOf s t slot) .state)
   unfolding drainOf carriedBy
   drain-kept slot e =
       let b = bounds (s .sizes) (h .ranged .sizes) in
@@ -110,7 +110,7 @@ module _ (s : State) (h : Sound s) (t : ℕ) (less : t < s .sizes .threads) wher
       (look-good (s .sizes) object p (omega arith) (facts .handover) (omega arith))))
       (tested (eqb object 0))
 
-  hand-over-kept : (object p : ℕ) → phaseOf s t ≡ Swap object p → Sound ((handOverOf s t object p) .state)
+  pub hand-over-kept : (object p : ℕ) → phaseOf s t ≡ Swap object p → Sound ((handOverOf s t object p) .state)
   unfolding handOverOf carriedBy
   hand-over-kept object p e =
       let b = bounds (s .sizes) (h .ranged .sizes) in
@@ -145,7 +145,7 @@ module _ (s : State) (h : Sound s) (t : ℕ) (less : t < s .sizes .threads) wher
             omega arith;
       }
 
-  free-kept : (object p : ℕ) → phaseOf s t ≡ Look object p → Sound (withObject (become s t Idle) object true 0)
+  pub free-kept : (object p : ℕ) → phaseOf s t ≡ Look object p → Sound (withObject (become s t Idle) object true 0)
   unfolding carriedBy
   free-kept object p e =
       let b = bounds (s .sizes) (h .ranged .sizes) in
@@ -173,7 +173,7 @@ module _ (s : State) (h : Sound s) (t : ℕ) (less : t < s .sizes .threads) wher
             omega arith;
       }
 
-  look-kept : (object p : ℕ) → phaseOf s t ≡ Look object p → Sound ((lookOf s t object p) .state)
+  pub look-kept : (object p : ℕ) → phaseOf s t ≡ Look object p → Sound ((lookOf s t object p) .state)
   unfolding lookOf carriedBy
   look-kept object p e =
       let f = look-facts (s .sizes) object p (in-phase (Look object p) e) in

@@ -34,7 +34,7 @@ module _ (n : ℕ) where
   unfolding marked
   marks-long most = simp (length-append, length-replicate) (omega arith)
 
-  marks-on : (k : ℕ) → k < n → getD (marked n) k false ≡ true
+  pub marks-on : (k : ℕ) → k < n → getD (marked n) k false ≡ true
   unfolding marked
   marks-on k less =
       List·getD-append (replicate n true) (replicate (240 - n) false) false k (rw length-replicate less) ∙

@@ -1,0 +1,44 @@
+-- A run: any calls in any order, each on the state that the last one handed back; and what is counted from its history alone.
+use Prim.Native.Nat.{ℕ}
+use mathlib.Core.Bool.{Bool, true, false, not, _&&_}
+use mathlib.Core.List.{List, [], _∷_}
+use lib.Dec.{eqb}
+use Rattle.machine.specs.declared.State.{State}
+use Rattle.machine.specs.declared.Call.{Call}
+use Rattle.machine.specs.declared.Answer.{Answer}
+use Rattle.machine.specs.declared.Answer.the-variants.{Refused, Taken, Begun, Working, Protected, Nothing, Swapped, Moved, Tag, Finished, Left, Freed}
+use Rattle.machine.specs.Answers.{numbersOf}
+use Rattle.machine.specs.Count.{howMany}
+use Rattle.machine.specs.Step.{stepOf}
+
+-- one call of a run: the state it came to, the call, and its answer
+pub record Event : Type 0 where
+  pub before : State
+  pub call : Call
+  pub answer : Answer
+
+abbrev pub eventOf : State → Call → Event
+eventOf s c = record { before = s; call = c; answer = (stepOf s c) .answer }
+
+unfoldable pub history : State → List Call → List Event
+history s [] = []
+history s (c ∷ calls) = eventOf s c ∷ history ((stepOf s c) .state) calls
+
+unfoldable pub stateAfter : State → List Call → State
+stateAfter s [] = s
+stateAfter s (c ∷ calls) = stateAfter ((stepOf s c) .state) calls
+
+-- an accepted retire: operation 5, answered 2 Begun
+unfoldable pub isRetire : Event → Bool
+isRetire e = eqb (e .call .operation) 5 && eqb ((numbersOf (e .answer)) .number) 2
+
+-- a Freed answer: 11
+unfoldable pub isFreed : Event → Bool
+isFreed e = eqb ((numbersOf (e .answer)) .number) 11
+
+-- "Counts come from the history: accepted retires less Freed answers"
+unfoldable pub retires : List Event → ℕ
+retires events = howMany isRetire events
+
+unfoldable pub freed : List Event → ℕ
+freed events = howMany isFreed events

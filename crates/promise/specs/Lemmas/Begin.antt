@@ -1,0 +1,74 @@
+-- The fresh machine and the empty store satisfy the invariant.
+use Prim.Native.Nat.{ℕ, zero, suc, _+_, _-_, _<_, _≤_}
+use native.Mathlib.Omega.{arith}
+use mathlib.Core.Path.{_≡_, refl, sym, ap, _∙_, subst}
+use mathlib.Core.Bool.{Bool, true, false, false≢true}
+use lib.ListN.{getD, replicate, getD-replicate}
+use Rattle.machine.specs.declared.State.{State}
+use Rattle.machine.specs.declared.Slot.{Slot}
+use Rattle.machine.specs.declared.Thread.{Thread}
+use Rattle.machine.specs.declared.Sizes.{Sizes}
+use Rattle.machine.specs.Sizes.{inRange, positions}
+use Rattle.machine.specs.Parts.{linkAt, slotAt, handOf, freeAt, idleThread, emptySlot}
+use Rattle.machine.specs.Phases.{carriedBy}
+use Rattle.machine.specs.Soundness.{bit}
+use Rattle.machine.specs.Count.{howMany, placesOf}
+use Rattle.machine.specs.Fresh.{freshOf}
+use Rattle.laws.specs.Lemmas.Good.{bounds}
+use Rattle.laws.specs.Lemmas.Ranged.{Sound, to-sound}
+use Rattle.laws.specs.Lemmas.Starts.{fresh-sound, marks-on}
+use Rattle.promise.specs.Store.{nothing}
+use Rattle.promise.specs.Reading.{noTakes, recordOf}
+use Rattle.promise.specs.Holdings.{waiting}
+use Rattle.promise.specs.Lemmas.Same.{Same, Live, record-none}
+use Rattle.promise.specs.Lemmas.Invariant.{Invariant}
+
+module _ (z : Sizes) (h : inRange z ≡ true) where
+  start-sound : Sound (freshOf z)
+  start-sound = to-sound (freshOf z) (fresh-sound z h)
+
+  no-mark : (p : ℕ) → p < positions z → (slotAt (freshOf z) p) .mark ≡ true → ⊥
+  unfolding freshOf
+  no-mark p less marked =
+      let b = bounds z (start-sound .ranged .sizes) in
+      let there : getD (replicate 32 emptySlot) p emptySlot ≡ emptySlot = getD-replicate 32 p emptySlot emptySlot (omega arith) in
+      false≢true (sym (ap (λ (x : Slot). x .mark) there) ∙ marked)
+
+  all-free : (o : ℕ) → Live (freshOf z) o → ⊥
+  unfolding freshOf
+  all-free o live =
+      let some = live .0 in
+      let most = live .1 in
+      false≢true (sym (live .2) ∙ marks-on (z .objects) (o - 1) (omega arith))
+
+  start-same : Same (freshOf z) noTakes nothing
+  unfolding freshOf
+  start-same =
+      let b = bounds z (start-sound .ranged .sizes) in
+      record {
+        holdings =
+            record {
+              links =
+                  λ i less.
+                  sym (ap (recordOf noTakes) (getD-replicate {A = ℕ} 16 i 0 0 (omega arith)) ∙ record-none noTakes);
+              hands =
+                  λ t less.
+                  sym
+                  (ap (λ (x : Thread). recordOf noTakes (x .hand)) (getD-replicate 8 t idleThread idleThread (omega arith)) ∙
+                  record-none noTakes);
+              slots = λ p less marked. absurd (no-mark p less marked);
+            };
+        tags = λ o live. absurd (all-free o live);
+        apart = λ o o′ live live′ e. absurd (all-free o live);
+        known = λ o live. absurd (all-free o live);
+        count = refl;
+      }
+
+  pub start-invariant : Invariant (freshOf z) noTakes nothing
+  unfolding freshOf
+  start-invariant =
+      record { sound = start-sound; guarded = λ p less marked. absurd (no-mark p less marked); same = start-same }
+
+pub start-waiting : (z : Sizes) → waiting (freshOf z) ≡ 0
+unfolding freshOf placesOf howMany bit carriedBy
+start-waiting z = refl

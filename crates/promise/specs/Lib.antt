@@ -1,0 +1,10 @@
+-- Demand 3. To read: the store, the history, the reading, the listing, the holdings, the run; then Promise, and Reached for the bound.
+pub mod Store
+pub mod History
+pub mod Reading
+pub mod Listing
+pub mod Holdings
+pub mod Run
+pub mod Promise
+pub mod Reached
+pub mod Lemmas

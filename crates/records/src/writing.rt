@@ -1,0 +1,75 @@
+// Writes a schedule record over the first ten bytes of a lent buffer.
+use crate::SizesRecord;
+use crate::StepRecord;
+use crate::Written;
+ghost use mathlib.Core.Path.{_≡_};
+ghost use Rattle.records.specs.Bytes.{sizesBytes, stepBytes};
+ghost use Rattle.records.specs.Writing.{answerOf, writtenOf};
+
+// Ten bytes over the first ten of the buffer, or a refusal where it is shorter.
+fn put(buf: &mut [u8], bytes: [u8; 10]) -> Written
+    ensures answer { λ r. ⌜ r ≡ answerOf (now (buf .entry)) ⌝ }
+    ensures bytes { λ _. ⌜ now (buf .exit) ≡ writtenOf bytes (now (buf .entry)) ⌝ }
+{
+    if buf.len() < 10 {
+        return Written::Refused(45);
+    }
+    buf[0] = bytes[0];
+    buf[1] = bytes[1];
+    buf[2] = bytes[2];
+    buf[3] = bytes[3];
+    buf[4] = bytes[4];
+    buf[5] = bytes[5];
+    buf[6] = bytes[6];
+    buf[7] = bytes[7];
+    buf[8] = bytes[8];
+    buf[9] = bytes[9];
+    Written::Done
+}
+
+// Writes a sizes record: its mark, the four sizes and four zero bytes.
+pub fn write_sizes(buf: &mut [u8], sizes: SizesRecord) -> Written
+    ensures answer { λ r. ⌜ r ≡ answerOf (now (buf .entry)) ⌝ }
+    ensures bytes { λ _. ⌜ now (buf .exit) ≡ writtenOf (sizesBytes sizes) (now (buf .entry)) ⌝ }
+{
+    put(
+        buf,
+        [
+            84,
+            83,
+            sizes.threads,
+            sizes.slots,
+            sizes.links,
+            sizes.objects,
+            0,
+            0,
+            0,
+            0,
+        ],
+    )
+}
+
+// Writes a step record: its mark, the four fields of one byte and the tag, low byte first.
+pub fn write_step(buf: &mut [u8], step: StepRecord) -> Written
+    ensures answer { λ r. ⌜ r ≡ answerOf (now (buf .entry)) ⌝ }
+    ensures bytes { λ _. ⌜ now (buf .exit) ≡ writtenOf (stepBytes step) (now (buf .entry)) ⌝ }
+{
+    let above0 = step.tag / 256;
+    let above1 = above0 / 256;
+    let above2 = above1 / 256;
+    put(
+        buf,
+        [
+            84,
+            75,
+            step.thread,
+            step.operation,
+            step.slot,
+            step.link,
+            (step.tag % 256) as u8,
+            (above0 % 256) as u8,
+            (above1 % 256) as u8,
+            (above2 % 256) as u8,
+        ],
+    )
+}
