@@ -15,3 +15,4 @@ pub mod Sums
 pub mod FivePlaces
 pub mod NotRefused
 pub mod Refused
+pub mod Changed
