@@ -6,7 +6,7 @@ use lib.Dec.{eqb}
 use Rattle.machine.specs.declared.State.{State}
 use Rattle.machine.specs.declared.Call.{Call}
 use Rattle.machine.specs.declared.Answer.{Answer}
-use Rattle.machine.specs.declared.Answer.the-variants.{Refused, Taken, Begun, Working, Protected, Nothing, Swapped, Moved, Tag, Finished, Left, Freed}
+use Rattle.machine.specs.declared.Outcome.{Outcome}
 use Rattle.machine.specs.Answers.{numbersOf}
 use Rattle.machine.specs.Count.{howMany}
 use Rattle.machine.specs.Step.{stepOf}
@@ -17,16 +17,30 @@ pub record Event : Type 0 where
   pub call : Call
   pub answer : Answer
 
+-- what takes a step: the machine, or one with a rule changed, of which Promise would not hold
+abbrev pub Machine : Type 0
+Machine = State → Call → Outcome
+
+abbrev pub eventBy : Machine → State → Call → Event
+eventBy machine s c = record { before = s; call = c; answer = (machine s c) .answer }
+
+unfoldable pub historyBy : Machine → State → List Call → List Event
+historyBy machine s [] = []
+historyBy machine s (c ∷ calls) = eventBy machine s c ∷ historyBy machine ((machine s c) .state) calls
+
+unfoldable pub stateBy : Machine → State → List Call → State
+stateBy machine s [] = s
+stateBy machine s (c ∷ calls) = stateBy machine ((machine s c) .state) calls
+
+-- of the machine that the code's contract cites
 abbrev pub eventOf : State → Call → Event
-eventOf s c = record { before = s; call = c; answer = (stepOf s c) .answer }
+eventOf = eventBy stepOf
 
-unfoldable pub history : State → List Call → List Event
-history s [] = []
-history s (c ∷ calls) = eventOf s c ∷ history ((stepOf s c) .state) calls
+abbrev pub history : State → List Call → List Event
+history = historyBy stepOf
 
-unfoldable pub stateAfter : State → List Call → State
-stateAfter s [] = s
-stateAfter s (c ∷ calls) = stateAfter ((stepOf s c) .state) calls
+abbrev pub stateAfter : State → List Call → State
+stateAfter = stateBy stepOf
 
 -- an accepted retire: operation 5, answered 2 Begun
 unfoldable pub isRetire : Event → Bool

@@ -1,4 +1,4 @@
--- Demand 3. To read: the store, the history, the reading, the listing, the holdings, the run; then Promise, and Reached for the bound.
+-- Demand 3. To read: the store, the history, the reading, the listing, the holdings, the run; then Promise.
 pub mod Store
 pub mod History
 pub mod Reading
@@ -6,5 +6,4 @@ pub mod Listing
 pub mod Holdings
 pub mod Run
 pub mod Promise
-pub mod Reached
 pub mod Lemmas

@@ -32,7 +32,7 @@ use Rattle.laws.specs.Lemmas.KeptByCalls.{thread-eight, its-position}
 use Rattle.laws.specs.Lemmas.KeptByGoOn.{in-phase}
 use Rattle.laws.specs.Lemmas.Accepted.{Accepted, accepted, by-operation, thread-less, some-free, slot-less}
 use Rattle.promise.specs.Store.{Store}
-use Rattle.promise.specs.History.{Event, eventOf, history, stateAfter}
+use Rattle.promise.specs.History.{historyBy, stateBy, Event, eventOf, history, stateAfter}
 use Rattle.promise.specs.Reading.{Reading}
 use Rattle.promise.specs.Holdings.{renews, handsOut, publishesAt}
 use Rattle.promise.specs.Lemmas.Reads.{same-or-not, slot-same, slot-other, hazard-kept, mark-kept}
@@ -229,7 +229,7 @@ pub protected-kept : (s : State) (r : Reading) (store : Store) → Invariant s r
     → ((slotAt (stateAfter s calls) p) .mark ≡ true)
     × ((slotAt (stateAfter s calls) p) .hazard ≡ (slotAt s p) .hazard)
     × (howMany (handsOut ((slotAt s p) .hazard)) (history s calls) ≡ 0)
-unfolding history stateAfter howMany bit
+unfolding historyBy stateBy howMany bit
 protected-kept s r store v p less marked [] none = (marked, refl, refl)
 protected-kept s r store v p less marked (c ∷ calls) none =
     let m = step-matches s c r store v in

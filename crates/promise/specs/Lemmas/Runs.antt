@@ -11,7 +11,7 @@ use Rattle.machine.specs.Answers.{Numbers, numbersOf}
 use Rattle.machine.specs.Count.{howMany}
 use Rattle.machine.specs.Step.{stepOf}
 use Rattle.promise.specs.Store.{Store, Whole, says, next, storeSays, storeAfter}
-use Rattle.promise.specs.History.{Event, eventOf, history, stateAfter, retires, freed, isRetire, isFreed}
+use Rattle.promise.specs.History.{historyBy, stateBy, Event, eventOf, history, stateAfter, retires, freed, isRetire, isFreed}
 use Rattle.promise.specs.Reading.{Reading, noted, renamed, readingAfter}
 use Rattle.promise.specs.Listing.{listedOf, listing, machineSays}
 use Rattle.promise.specs.Holdings.{waiting}
@@ -38,7 +38,7 @@ pub record Run (s : State) (r : Reading) (store : Store) (calls : List Call) : T
   pub count : freed (history s calls) + waiting (stateAfter s calls) ≡ waiting s + retires (history s calls)
 
 pub run : (s : State) (r : Reading) (store : Store) → Invariant s r store → (calls : List Call) → Run s r store calls
-unfolding history stateAfter storeSays storeAfter listing machineSays readingAfter retires freed howMany
+unfolding historyBy stateBy storeSays storeAfter listing machineSays readingAfter retires freed howMany
 run s r store v [] = record { sizes = refl; says = refl; holds = v; count = omega arith }
 run s r store v (c ∷ calls) =
     let m = step-matches s c r store v in

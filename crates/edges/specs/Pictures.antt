@@ -1,0 +1,46 @@
+-- A state as numbers, every entry of it, so that two states are told apart and a whole one is written down.
+use Prim.Native.Nat.{ℕ}
+use mathlib.Core.List.{List, [], _∷_, _++_, map}
+use Rattle.machine.specs.declared.State.{State}
+use Rattle.machine.specs.declared.Thread.{Thread}
+use Rattle.machine.specs.declared.Slot.{Slot}
+use Rattle.machine.specs.declared.Phase.{Phase}
+use Rattle.machine.specs.declared.Phase.the-variants.{Idle, Loaded, Published, Draining, Look, Swap}
+use Rattle.machine.specs.declared.Started.{Started}
+use Rattle.machine.specs.Soundness.{bit}
+use Rattle.machine.specs.Answers.{verdictNumber}
+use Rattle.edges.specs.Runs.{sizesLine}
+
+-- the number of the case, in document 01's order, then its fields; 0 for idle
+unfoldable pub phaseNumbers : Phase → List ℕ
+phaseNumbers Idle = 0 ∷ 0 ∷ 0 ∷ 0 ∷ []
+phaseNumbers (Loaded slot link object) = 1 ∷ slot ∷ link ∷ object ∷ []
+phaseNumbers (Published slot link) = 2 ∷ slot ∷ link ∷ 0 ∷ []
+phaseNumbers (Draining slot) = 3 ∷ slot ∷ 0 ∷ 0 ∷ []
+phaseNumbers (Look object position) = 4 ∷ object ∷ position ∷ 0 ∷ []
+phaseNumbers (Swap object position) = 5 ∷ object ∷ position ∷ 0 ∷ []
+
+-- five numbers for a thread
+unfoldable pub threadNumbers : List Thread → List ℕ
+threadNumbers [] = []
+threadNumbers (thread ∷ threads) = (thread .hand ∷ phaseNumbers (thread .phase)) ++ threadNumbers threads
+
+-- three numbers for a slot
+unfoldable pub slotNumbers : List Slot → List ℕ
+slotNumbers [] = []
+slotNumbers (slot ∷ slots) = slot .hazard ∷ bit (slot .mark) ∷ slot .handover ∷ slotNumbers slots
+
+-- six lines: sizes, links, threads, slots, free marks, tags
+unfoldable pub picture : State → List (List ℕ)
+picture s =
+    sizesLine (s .sizes) ∷
+    s .links ∷
+    threadNumbers (s .threads) ∷
+    slotNumbers (s .slots) ∷
+    map bit (s .free) ∷
+    s .tags ∷
+    []
+
+-- what start gives: its verdict's number, 0 for good, and the state
+unfoldable pub startPicture : Started → List (List ℕ)
+startPicture st = (verdictNumber (st .verdict) ∷ []) ∷ picture (st .state)

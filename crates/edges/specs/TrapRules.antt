@@ -1,0 +1,125 @@
+-- Document 01, "Traps": the rules of the machine with one of them changed, for each trap.
+use Prim.Native.Nat.{ℕ, suc}
+use mathlib.Core.Bool.{Bool, true, false, cond, not, _&&_, _||_}
+use lib.Dec.{leb, ltb, eqb}
+use Rattle.machine.specs.declared.State.{State}
+use Rattle.machine.specs.declared.Phase.the-variants.{Idle, Draining, Look, Swap}
+use Rattle.machine.specs.declared.Outcome.{Outcome}
+use Rattle.machine.specs.declared.Answer.the-variants.{Begun, Working, Protected, Nothing, Finished, Left, Freed}
+use Rattle.machine.specs.Sizes.{positions}
+use Rattle.machine.specs.Parts.{slotAt, positionOf, tagOf, withSlot, withObject}
+use Rattle.machine.specs.Soundness.{below}
+use Rattle.machine.specs.Calls.{outcome, holding, clearOf}
+use Rattle.machine.specs.GoOn.{become, leaving, publishOf, confirmOf, drainOf, lookOf, handOverOf}
+use Rattle.edges.specs.Rules.{Rules}
+
+-- "Moving on after a swap": the displaced object is looked for one position on.
+unfoldable pub handOverAndMoveOn : State → ℕ → ℕ → ℕ → Outcome
+handOverAndMoveOn s t object p =
+    let old = (slotAt s p) .handover in
+    let left = withSlot s p (leaving (slotAt s p) object) in
+    cond (eqb old 0) (outcome (become left t Idle) (Left object p)) (outcome (become left t (Look old (suc p))) Working)
+
+abbrev pub movesOn : Rules
+movesOn =
+    record {
+      clear = clearOf;
+      loaded = publishOf;
+      published = confirmOf;
+      draining = drainOf;
+      look = lookOf;
+      swap = handOverAndMoveOn;
+    }
+
+-- "Marking a slot at publication, without the second read of the link."
+unfoldable pub publishAndMark : State → ℕ → ℕ → ℕ → ℕ → Outcome
+publishAndMark s t slot link object =
+    let p = positionOf s t slot in
+    outcome
+    (become (withSlot s p (holding (slotAt s p) object (not (eqb object 0)))) t Idle)
+    (cond (eqb object 0) Nothing (Protected object (tagOf s object)))
+
+abbrev pub marksAtOnce : Rules
+marksAtOnce =
+    record {
+      clear = clearOf;
+      loaded = publishAndMark;
+      published = confirmOf;
+      draining = drainOf;
+      look = lookOf;
+      swap = handOverOf;
+    }
+
+-- "Draining before the hazard is zeroed": clear takes the handover, and the step after it zeroes the hazard. Where there was an object to take
+-- along, the hazard is zeroed with it.
+unfoldable pub drainAtClear : State → ℕ → ℕ → Outcome
+drainAtClear s t slot =
+    let p = positionOf s t slot in
+    let object = (slotAt s p) .handover in
+    cond (eqb object 0)
+    (outcome (become s t (Draining slot)) (Begun 0))
+    (outcome (become (withSlot s p (record { hazard = 0; mark = false; handover = 0 })) t (Look object p)) (Begun 0))
+
+unfoldable pub zeroAfterDrain : State → ℕ → ℕ → Outcome
+zeroAfterDrain s t slot =
+    let p = positionOf s t slot in
+    outcome (become (withSlot s p (holding (slotAt s p) 0 false)) t Idle) Finished
+
+abbrev pub drainsFirst : Rules
+drainsFirst =
+    record {
+      clear = drainAtClear;
+      loaded = publishOf;
+      published = confirmOf;
+      draining = zeroAfterDrain;
+      look = lookOf;
+      swap = handOverOf;
+    }
+
+-- a look where a test says whether the hazard there counts, and another whether the scan ends in this step
+unfoldable pub lookBy : (State → ℕ → ℕ → ℕ → Bool) → (State → ℕ → ℕ → ℕ → Bool) → State → ℕ → ℕ → ℕ → Outcome
+lookBy matches ends s t object p =
+    cond (ends s t object p)
+    (outcome (withObject (become s t Idle) object true 0) (Freed object))
+    (cond (matches s t object p)
+    (outcome (become s t (Swap object p)) Working)
+    (outcome (become s t (Look object (suc p))) Working))
+
+-- the hazard at the position is the object
+abbrev pub met : State → ℕ → ℕ → ℕ → Bool
+met s t object p = eqb ((slotAt s p) .hazard) object
+
+abbrev pub atEnd : State → ℕ → ℕ → ℕ → Bool
+atEnd s t object p = not (ltb p (positions (s .sizes)))
+
+-- no position after this one holds the object
+unfoldable pub lastMet : State → ℕ → ℕ → ℕ → Bool
+lastMet s t object p = met s t object p && below (positions (s .sizes)) (λ q. leb q p || not (met s t object q))
+
+-- "Freeing at the last match of a scan"
+abbrev pub freesAtLast : Rules
+freesAtLast =
+    record {
+      clear = clearOf;
+      loaded = publishOf;
+      published = confirmOf;
+      draining = drainOf;
+      look = lookBy met (λ s t object p. atEnd s t object p || lastMet s t object p);
+      swap = handOverOf;
+    }
+
+-- the position is one of the thread's own
+abbrev pub own : State → ℕ → ℕ → Bool
+own s t p = leb (positionOf s t 0) p && ltb p (positionOf s t (s .sizes .slots))
+
+-- "scanning only other threads' slots"
+abbrev pub skipsOwn : Rules
+skipsOwn =
+    record {
+      clear = clearOf;
+      loaded = publishOf;
+      published = confirmOf;
+      draining = drainOf;
+      look = lookBy (λ s t object p. met s t object p && not (own s t p)) atEnd;
+      swap = handOverOf;
+    }

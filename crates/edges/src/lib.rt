@@ -1,0 +1,1 @@
+// Statements only: document 01's edges and the machines it rules out, in specs/.
