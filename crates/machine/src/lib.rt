@@ -1,4 +1,7 @@
 // The record machine: the state, start, the soundness check, one step, and the count of the five places.
+mod calls;
+mod go_on;
+
 pub struct Sizes {
     pub threads: u8,
     pub slots: u8,

@@ -1,0 +1,4 @@
+-- Laws that belong to no one function.
+pub mod Bounds
+pub mod Firsts
+pub mod Truth

@@ -1,0 +1,99 @@
+use mathlib.Core.Path.{sym}
+use borrow.Author.Tests.{eq-eqb, ne-eqb}
+use Rattle.machine.specs.GoOn.{confirmOf}
+use borrow.Author.Needs.{needs}
+use Rattle.machine.proofs.State.confirm.Statement.{statement}
+use Rattle.machine.proofs.State.confirm.Tie as tie
+
+element-copy-out-object : tie.Need-element-copy-out-object
+element-copy-out-object c = search needs
+
+position-requires : tie.Need-position-requires
+position-requires c κs = search needs
+
+cast-p : tie.Need-cast-p
+cast-p c = search needs
+
+mul-held : tie.Need-mul-held
+mul-held c = search needs
+
+element-copy-out-held : tie.Need-element-copy-out-held
+element-copy-out-held c = search needs
+
+mul-me : tie.Need-mul-me
+mul-me c = search needs
+
+element-copy-out-me : tie.Need-element-copy-out-me
+element-copy-out-me c = search needs
+
+mul-t29 : tie.Need-mul-t29
+mul-t29 c = search needs
+
+element-set-from-next : tie.Need-element-set-from-next
+element-set-from-next c = search needs
+
+returns : tie.Need-returns
+unfolding confirmOf
+returns c = simp (sym (c .before .before .before .before .position .ensures), ne-eqb _ _ (c .if1 .taken))
+
+mul-t18 : tie.Need-mul-t18
+mul-t18 c = search needs
+
+element-set-from-next-2 : tie.Need-element-set-from-next-2
+element-set-from-next-2 c = search needs
+
+returns-2 : tie.Need-returns-2
+unfolding confirmOf
+returns-2 c = simp (sym (c .before .before .before .before .before .position .ensures), eq-eqb _ _ (c .before .if1 .left), eq-eqb _ _ (c .if2 .taken))
+
+mul-t18-2 : tie.Need-mul-t18-2
+mul-t18-2 c = search needs
+
+element-set-from-next-3 : tie.Need-element-set-from-next-3
+element-set-from-next-3 c = search needs
+
+cast-o : tie.Need-cast-o
+cast-o c = search needs
+
+sub-o : tie.Need-sub-o
+sub-o c = search needs
+
+mul-t18-3 : tie.Need-mul-t18-3
+mul-t18-3 c = search needs
+
+element-copy-out-t43 : tie.Need-element-copy-out-t43
+element-copy-out-t43 c = search needs
+
+returns-3 : tie.Need-returns-3
+unfolding confirmOf
+returns-3 c =
+    rw (
+      ← (c .before .before .before .before .before .before .position .ensures),
+      eq-eqb _ _ (c .before .before .if1 .left),
+      ne-eqb _ _ (c .before .if2 .left),
+    )
+
+pub confirm-spec : {M : Type 1} → statement M
+confirm-spec =
+    tie.close
+    (tie.spec
+    element-copy-out-object
+    position-requires
+    cast-p
+    mul-held
+    element-copy-out-held
+    mul-me
+    element-copy-out-me
+    mul-t29
+    element-set-from-next
+    returns
+    mul-t18
+    element-set-from-next-2
+    returns-2
+    mul-t18-2
+    element-set-from-next-3
+    cast-o
+    sub-o
+    mul-t18-3
+    element-copy-out-t43
+    returns-3)
