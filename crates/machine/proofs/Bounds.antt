@@ -1,20 +1,18 @@
 -- What soundness says of single numbers: sizes, positions, phases, objects. Every index and sum of the code is in range by one of these.
-use Prim.Native.Nat.{ℕ, zero, suc, _+_, _*_, _≤_, _<_}
-use mathlib.Core.Bool.{Bool, true, false, not, cond, _&&_, _||_}
-use mathlib.Core.Path.{_≡_, refl, sym, subst}
+use Prim.Native.Nat.{ℕ, zero, suc, _*_, _≤_, _<_}
+use mathlib.Core.Bool.{Bool, true, false, not, _&&_, _||_}
+use mathlib.Core.Path.{_≡_}
 use mathlib.Core.Logic.{_⊎_, ⊎-elim}
 use native.Mathlib.Nat.{mul-le-mul, mul-le-mul-right, suc-mul, le-trans, lt-of-lt-of-le, eq-or-lt-of-le}
 use native.Mathlib.Omega.{arith}
-use lib.Dec.{ltb, leb, eqb}
+use lib.Dec.{leb, eqb}
 use lib.ListN.{getD}
-use borrow.Author.Tests.{ltb-true, leb-true, eqb-true, eqb-false, not-true, not-false, lt-ltb}
+use borrow.Author.Tests.{leb-true, eqb-true, eqb-false, not-true, lt-ltb}
 use Rattle.machine.specs.declared.Sizes.{Sizes}
 use Rattle.machine.specs.declared.State.{State}
-use Rattle.machine.specs.declared.Slot.{Slot}
-use Rattle.machine.specs.declared.Thread.{Thread}
 use Rattle.machine.specs.Sizes.{inRange, allZero, positions, within}
 use Rattle.machine.specs.Parts.{linkAt, threadAt, phaseOf, slotAt, positionOf}
-use Rattle.machine.specs.Phases.{phaseInRange, isIdle}
+use Rattle.machine.specs.Phases.{phaseInRange}
 use Rattle.machine.specs.Soundness.{below, shaped, sizesGood, linkGood, threadGood, slotGood, freeGood, tagGood, places, sound}
 use Rattle.machine.proofs.Truth.{both, either, three, four}
 

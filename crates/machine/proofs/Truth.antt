@@ -1,9 +1,8 @@
--- Tests joined by `and`, `or` and `not`, taken apart and put together; a choice by a test that is known.
-use mathlib.Core.Bool.{Bool, true, false, not, cond, _&&_, _||_}
-use mathlib.Core.Path.{_≡_, refl, sym}
+-- Tests joined by `and` and `or`, taken apart.
+use mathlib.Core.Bool.{Bool, true, false, _&&_, _||_}
+use mathlib.Core.Path.{_≡_, refl, sym, subst}
 use mathlib.Core.Logic.{_⊎_, inl, inr}
 use lib.Dec.{T}
-use mathlib.Core.Path.{subst}
 
 pub never : {A : Type 0} → true ≡ false → A
 never e = absurd (subst T e tt)

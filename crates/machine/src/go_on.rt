@@ -7,10 +7,12 @@ use crate::State;
 use crate::Thread;
 use crate::calls::position;
 ghost use mathlib.Core.Path.{_≡_};
+ghost use mathlib.Core.Bool.{true};
 ghost use Prim.Native.Nat.{_<_, _≤_};
 ghost use Rattle.machine.specs.Sizes.{positions};
 ghost use Rattle.machine.specs.Parts.{linkAt, positionOf};
-ghost use Rattle.machine.specs.GoOn.{publishOf, confirmOf, drainOf, lookOf, handOverOf};
+ghost use Rattle.machine.specs.Soundness.{sound};
+ghost use Rattle.machine.specs.GoOn.{publishOf, confirmOf, drainOf, lookOf, handOverOf, goOnOf};
 
 impl State {
     // "Loaded: store the object in the hazard, mark off, become Published."
@@ -210,6 +212,27 @@ impl State {
         Outcome {
             state: next,
             answer: Answer::Working,
+        }
+    }
+
+    // An idle thread has nothing to go on with; refusal 27 comes before this case is reached.
+    pub(crate) fn go_on(self, thread: u8) -> Outcome
+        requires { ⌜ (sound self ≡ true) × (thread < self .sizes .threads) ⌝ }
+        ensures { λ r. ⌜ r ≡ goOnOf self thread ⌝ }
+    {
+        let t = thread as usize;
+        let me = self.threads[t];
+        let phase = me.phase;
+        match phase {
+            Phase::Idle => Outcome {
+                state: self,
+                answer: Answer::Refused(27),
+            },
+            Phase::Loaded { slot, link, object } => self.publish(thread, slot, link, object),
+            Phase::Published { slot, link } => self.confirm(thread, slot, link),
+            Phase::Draining { slot } => self.drain(thread, slot),
+            Phase::Look { object, position } => self.look(thread, object, position),
+            Phase::Swap { object, position } => self.hand_over(thread, object, position),
         }
     }
 }

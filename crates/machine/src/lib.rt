@@ -1,6 +1,9 @@
 // The record machine: the state, start, the soundness check, one step, and the count of the five places.
 mod calls;
 mod go_on;
+mod refusals;
+mod soundness;
+mod step;
 
 pub struct Sizes {
     pub threads: u8,

@@ -1,5 +1,6 @@
-use Rattle.machine.specs.Calls.{clearOf}
+-- `clear` does what the table says of it; the position is the one that the definition names.
 use borrow.Author.Needs.{needs}
+use Rattle.machine.specs.Calls.{clearOf}
 use Rattle.machine.proofs.State.clear.Statement.{statement}
 use Rattle.machine.proofs.State.clear.Tie as tie
 

@@ -1,7 +1,8 @@
+-- `confirm` is the case Published, one return for each of its three ends.
 use mathlib.Core.Path.{sym}
 use borrow.Author.Tests.{eq-eqb, ne-eqb}
-use Rattle.machine.specs.GoOn.{confirmOf}
 use borrow.Author.Needs.{needs}
+use Rattle.machine.specs.GoOn.{confirmOf}
 use Rattle.machine.proofs.State.confirm.Statement.{statement}
 use Rattle.machine.proofs.State.confirm.Tie as tie
 

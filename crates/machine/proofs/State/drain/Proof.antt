@@ -1,7 +1,8 @@
+-- `drain` is the case Draining, one return for each of its two ends.
 use mathlib.Core.Path.{sym}
 use borrow.Author.Tests.{eq-eqb, ne-eqb}
-use Rattle.machine.specs.GoOn.{drainOf}
 use borrow.Author.Needs.{needs}
+use Rattle.machine.specs.GoOn.{drainOf}
 use Rattle.machine.proofs.State.drain.Statement.{statement}
 use Rattle.machine.proofs.State.drain.Tie as tie
 

@@ -1,6 +1,7 @@
+-- `hand_over` is the case Swap, one return for each of its two ends.
 use borrow.Author.Tests.{eq-eqb, ne-eqb}
-use Rattle.machine.specs.GoOn.{handOverOf}
 use borrow.Author.Needs.{needs}
+use Rattle.machine.specs.GoOn.{handOverOf}
 use Rattle.machine.proofs.State.hand_over.Statement.{statement}
 use Rattle.machine.proofs.State.hand_over.Tie as tie
 

@@ -1,8 +1,9 @@
-use Rattle.machine.specs.Sizes.{positions}
+-- `let_go` is the case Look at T × H.
 use native.Mathlib.Nat.{le-refl}
 use borrow.Author.Tests.{le-ltb}
-use Rattle.machine.specs.GoOn.{lookOf}
 use borrow.Author.Needs.{needs}
+use Rattle.machine.specs.Sizes.{positions}
+use Rattle.machine.specs.GoOn.{lookOf}
 use Rattle.machine.proofs.State.let_go.Statement.{statement}
 use Rattle.machine.proofs.State.let_go.Tie as tie
 

@@ -1,11 +1,12 @@
-use native.Mathlib.Numerals.{add-one}
+-- `look` is the case Look: past the last position it lets the object go, and before that it goes by the hazard there.
 use mathlib.Core.Path.{_∙_}
 use mathlib.Core.Logic.{⊎-elim}
+use native.Mathlib.Numerals.{add-one}
 use native.Mathlib.Nat.{le-refl}
-use Rattle.machine.specs.Sizes.{positions}
 use borrow.Author.Tests.{lt-ltb, le-ltb, eq-eqb, ne-eqb}
-use Rattle.machine.specs.GoOn.{lookOf}
 use borrow.Author.Needs.{needs}
+use Rattle.machine.specs.Sizes.{positions}
+use Rattle.machine.specs.GoOn.{lookOf}
 use Rattle.machine.proofs.State.look.Statement.{statement}
 use Rattle.machine.proofs.State.look.Tie as tie
 

@@ -1,5 +1,6 @@
-use Rattle.machine.specs.Calls.{protectOf}
+-- `protect` does what the table says of it: the definition is the code.
 use borrow.Author.Needs.{needs}
+use Rattle.machine.specs.Calls.{protectOf}
 use Rattle.machine.proofs.State.protect.Statement.{statement}
 use Rattle.machine.proofs.State.protect.Tie as tie
 

@@ -1,6 +1,7 @@
+-- `publish` is the case Loaded; the position is the one that the definition names.
 use mathlib.Core.Path.{sym}
-use Rattle.machine.specs.GoOn.{publishOf}
 use borrow.Author.Needs.{needs}
+use Rattle.machine.specs.GoOn.{publishOf}
 use Rattle.machine.proofs.State.publish.Statement.{statement}
 use Rattle.machine.proofs.State.publish.Tie as tie
 

@@ -1,6 +1,7 @@
+-- `read` does what the table says of it. The slot holds an object, so one less than its number is an index.
 use native.Mathlib.Omega.{arith}
-use Rattle.machine.specs.Calls.{readOf}
 use borrow.Author.Needs.{needs}
+use Rattle.machine.specs.Calls.{readOf}
 use Rattle.machine.proofs.State.read.Statement.{statement}
 use Rattle.machine.proofs.State.read.Tie as tie
 

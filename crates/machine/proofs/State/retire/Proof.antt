@@ -1,5 +1,6 @@
-use Rattle.machine.specs.Calls.{retireOf}
+-- `retire` does what the table says of it: the definition is the code.
 use borrow.Author.Needs.{needs}
+use Rattle.machine.specs.Calls.{retireOf}
 use Rattle.machine.proofs.State.retire.Statement.{statement}
 use Rattle.machine.proofs.State.retire.Tie as tie
 

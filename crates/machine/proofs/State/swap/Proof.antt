@@ -1,7 +1,8 @@
+-- `swap` does what the table says of it, by whether the link holds what it must.
 use mathlib.Core.Path.{sym}
 use borrow.Author.Tests.{eq-eqb, ne-eqb}
-use Rattle.machine.specs.Calls.{swapOf}
 use borrow.Author.Needs.{needs}
+use Rattle.machine.specs.Calls.{swapOf}
 use Rattle.machine.proofs.State.swap.Statement.{statement}
 use Rattle.machine.proofs.State.swap.Tie as tie
 

@@ -1,6 +1,7 @@
+-- `take` does what the table says of it. The object it takes is the first free one, so its number is 1 to 240 and one less is an index.
 use mathlib.Core.Path.{sym}
-use Rattle.machine.specs.Calls.{nextFree, takeOf}
 use borrow.Author.Needs.{needs}
+use Rattle.machine.specs.Calls.{nextFree, takeOf}
 use Rattle.machine.proofs.State.take.Statement.{statement}
 use Rattle.machine.proofs.State.take.Tie as tie
 

@@ -1,7 +1,8 @@
+-- `wanted` is what the link must hold for a swap. Only a call that names a slot looks one up.
 use mathlib.Core.Path.{sym}
 use borrow.Author.Tests.{eq-eqb, ne-eqb}
-use Rattle.machine.specs.Calls.{expected}
 use borrow.Author.Needs.{needs}
+use Rattle.machine.specs.Calls.{expected}
 use Rattle.machine.proofs.State.wanted.Statement.{statement}
 use Rattle.machine.proofs.State.wanted.Tie as tie
 

@@ -1,8 +1,9 @@
+-- The loop has looked at the marks below k, none of which is on, so the search of the rest gives the number of the whole search.
 use Prim.Native.Nat.{_≤_, _-_}
 use mathlib.Core.Path.{_≡_, refl, sym, _∙_}
 use native.Mathlib.Omega.{arith}
-use borrow.Author.Needs.{needs}
 use lib.ListN.{length, drop}
+use borrow.Author.Needs.{needs}
 use Rattle.machine.specs.Calls.{firstOn}
 use Rattle.machine.proofs.Firsts.{here, further, none}
 use Rattle.machine.proofs.calls.first_on.Statement.{statement}
