@@ -1,4 +1,8 @@
 // The record machine: the state, start, the soundness check, one step, and the count of the five places.
+mod fresh;
+
+pub use fresh::start;
+
 pub struct Sizes {
     pub threads: u8,
     pub slots: u8,

@@ -1,0 +1,5 @@
+-- Laws that several functions' proofs cite.
+pub mod Flags
+pub mod Marks
+pub mod Below
+pub mod SizeLaws
