@@ -1,11 +1,13 @@
 -- A test of each number under n, as a loop that goes up makes it: what it knows as it goes, and what one failure decides.
 use mathlib.Core.Path.{_≡_, refl, sym, ap, _∙_}
-use mathlib.Core.Bool.{Bool, true, false, _&&_, and-false}
+use mathlib.Core.Bool.{Bool, true, false, _&&_, _||_, and-false}
 use mathlib.Core.Logic.{⊎-elim}
 use Prim.Native.Nat.{ℕ, zero, suc, _+_, _≤_, _<_}
 use native.Mathlib.Nat.{not-suc-le-zero, le-of-suc-le-suc, eq-or-lt-of-le}
 use native.Mathlib.Numerals.{add-one}
 use native.Mathlib.Omega.{arith}
+use lib.Dec.{ltb}
+use borrow.Author.Tests.{ltb-false, le-ltb}
 use Rattle.machine.specs.Soundness.{below}
 use Rattle.machine.proofs.Flags.{both}
 
@@ -49,3 +51,16 @@ below-at (suc n) test all k h =
 -- fewer pass
 pub below-fewer : (m n : ℕ) (test : ℕ → Bool) → m ≤ n → below n test ≡ true → below m test ≡ true
 below-fewer m n test h all = below-all m test (λ k l. below-at n test all k (omega arith))
+
+-- Tests that ask something only from m on.
+
+or-else : (b r : Bool) → (b ≡ false → r ≡ true) → b || r ≡ true
+or-else true r last = refl
+or-else false r last = last refl
+
+pub beyond-all : (m n : ℕ) (rest : ℕ → Bool) → ((k : ℕ) → k < n → m ≤ k → rest k ≡ true) → below n (λ k. ltb k m || rest k) ≡ true
+beyond-all m n rest all =
+    below-all n (λ k. ltb k m || rest k) (λ k h. or-else (ltb k m) (rest k) (λ e. all k h (ltb-false k m e)))
+
+pub beyond-fails : (i m n : ℕ) (rest : ℕ → Bool) → i < n → m ≤ i → rest i ≡ false → below n (λ k. ltb k m || rest k) ≡ false
+beyond-fails i m n rest h from fails = below-fails i n (λ k. ltb k m || rest k) h (rw (le-ltb i m from, fails))

@@ -3,3 +3,5 @@ pub mod Flags
 pub mod Marks
 pub mod Below
 pub mod SizeLaws
+pub mod Counting
+pub mod Sounding

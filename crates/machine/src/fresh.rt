@@ -6,33 +6,12 @@ use crate::Started;
 use crate::State;
 use crate::Thread;
 use crate::Verdict;
+use crate::ranges::in_range;
 ghost use mathlib.Core.Path.{_≡_};
 ghost use Prim.Native.Nat.{_≤_};
 ghost use lib.ListN.{replicate};
-ghost use Rattle.machine.specs.Sizes.{within, inRange};
 ghost use Rattle.machine.specs.Parts.{idleThread, emptySlot};
-ghost use Rattle.machine.specs.Fresh.{marked, freshOf, blank, startOf};
-
-fn within(low: u8, high: u8, n: u8) -> bool
-    ensures { λ r. ⌜ r ≡ within low high n ⌝ }
-{
-    low <= n && n <= high
-}
-
-pub fn in_range(z: Sizes) -> bool
-    ensures { λ r. ⌜ r ≡ inRange z ⌝ }
-{
-    if !within(1, 8, z.threads) {
-        return false;
-    }
-    if !within(1, 4, z.slots) {
-        return false;
-    }
-    if !within(1, 16, z.links) {
-        return false;
-    }
-    within(1, 240, z.objects)
-}
+ghost use Rattle.machine.specs.Fresh.{marked, startOf};
 
 // "the first N then marked free"
 fn first_marked(n: u8) -> [bool; 240]

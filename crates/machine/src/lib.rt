@@ -1,5 +1,9 @@
 // The record machine: the state, start, the soundness check, one step, and the count of the five places.
+mod entries;
 mod fresh;
+mod ranges;
+mod soundness;
+mod tally;
 
 pub use fresh::start;
 

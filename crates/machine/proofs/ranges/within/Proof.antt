@@ -1,7 +1,7 @@
 -- `within` meets its contract: each of its two ways has the tests that led there.
 use borrow.Author.Tests.{le-leb, lt-leb}
-use Rattle.machine.proofs.fresh.within.Statement.{statement}
-use Rattle.machine.proofs.fresh.within.Tie as tie
+use Rattle.machine.proofs.ranges.within.Statement.{statement}
+use Rattle.machine.proofs.ranges.within.Tie as tie
 
 returns : tie.Need-returns
 returns c = simp (le-leb _ _ (c .if1 .taken))

@@ -3,8 +3,8 @@ use mathlib.Core.Path.{sym, _∙_}
 use borrow.Author.Needs.{needs}
 use Rattle.machine.specs.Sizes.{inRange}
 use Rattle.machine.proofs.Flags.{refused, passed, and-so, and-not, and-then}
-use Rattle.machine.proofs.fresh.in_range.Statement.{statement}
-use Rattle.machine.proofs.fresh.in_range.Tie as tie
+use Rattle.machine.proofs.ranges.in_range.Statement.{statement}
+use Rattle.machine.proofs.ranges.in_range.Tie as tie
 
 within-requires : tie.Need-within-requires
 within-requires c κs = search needs
