@@ -14,18 +14,9 @@ use Rattle.machine.specs.Sizes.{inRange, allZero, positions, within}
 use Rattle.machine.specs.Parts.{linkAt, threadAt, phaseOf, slotAt, positionOf}
 use Rattle.machine.specs.Phases.{phaseInRange}
 use Rattle.machine.specs.Soundness.{below, shaped, sizesGood, linkGood, threadGood, slotGood, freeGood, tagGood, places, sound}
-use Rattle.machine.proofs.Truth.{both, either, three, four}
-
--- what holds of each number below n holds at k
-pub at-each : (n : ℕ) (test : ℕ → Bool) → below n test ≡ true → (k : ℕ) → k < n → test k ≡ true
-unfolding below
-at-each zero test h k lt = absurd (omega arith)
-at-each (suc n) test h k lt =
-    let parts = both (below n test) (test n) h in
-    ⊎-elim
-    (λ same. rw same (parts .1))
-    (λ less. at-each n test (parts .0) k less)
-    (eq-or-lt-of-le (omega arith))
+use Rattle.machine.proofs.Below.{below-at}
+use Rattle.machine.proofs.Flags.{both}
+use Rattle.machine.proofs.Truth.{either, three, four}
 
 -- the parts of soundness that bound a number
 pub record Sound (s : State) : Type 0 where
@@ -50,9 +41,9 @@ taken-apart s h =
     let inner = three (shaped s) (sizesGood z) linksGood (outer .0) in
     record {
       sizes = inner .1;
-      links = at-each 16 (λ i. linkGood z i (linkAt s i)) (inner .2);
-      threads = at-each 8 (λ t. threadGood z t (threadAt s t)) (outer .1);
-      slots = at-each 32 (λ p. slotGood z p (slotAt s p)) (outer .2);
+      links = below-at 16 (λ i. linkGood z i (linkAt s i)) (inner .2);
+      threads = below-at 8 (λ t. threadGood z t (threadAt s t)) (outer .1);
+      slots = below-at 32 (λ p. slotGood z p (slotAt s p)) (outer .2);
     }
 
 zero-within : (n most : ℕ) → n ≡ 0 → n ≤ most

@@ -15,7 +15,7 @@ use Rattle.machine.specs.Phases.{isIdle}
 use Rattle.machine.specs.Soundness.{sound}
 use Rattle.machine.specs.Calls.{nextFree}
 use Rattle.machine.specs.Refusals.{Row, _when_, firstOf, usesSlot, usesLink, unusedNotZero, withoutSlot, protectedAt, refusals, refusalOf}
-use Rattle.machine.proofs.Truth.{both}
+use Rattle.machine.proofs.Flags.{both}
 
 -- no line's number is 0, which stands for no refusal
 unfoldable pub numbered : List Row → Bool

@@ -3,21 +3,14 @@ use mathlib.Core.Bool.{Bool, true, false, _&&_, _||_}
 use mathlib.Core.Path.{_≡_, refl, sym, subst}
 use mathlib.Core.Logic.{_⊎_, inl, inr}
 use lib.Dec.{T}
+use Rattle.machine.proofs.Flags.{both}
 
 pub never : {A : Type 0} → true ≡ false → A
 never e = absurd (subst T e tt)
 
-pub both : (a b : Bool) → (a && b) ≡ true → (a ≡ true) × (b ≡ true)
-both true b e = (refl, e)
-both false b e = never (sym e)
-
 pub either : (a b : Bool) → (a || b) ≡ true → (a ≡ true) ⊎ (b ≡ true)
 either true b e = inl refl
 either false b e = inr e
-
-pub neither : (a b : Bool) → (a || b) ≡ false → (a ≡ false) × (b ≡ false)
-neither true b e = never e
-neither false b e = (refl, e)
 
 -- what is left of a false `and` whose first test is true
 pub second-false : (a b : Bool) → a ≡ true → (a && b) ≡ false → b ≡ false

@@ -1,11 +1,11 @@
 // "The first that applies is given, in this order, and never otherwise."
 use crate::Call;
-use crate::Phase;
 use crate::Sizes;
 use crate::State;
 use crate::Thread;
 use crate::calls::first_on;
 use crate::calls::position;
+use crate::ranges::is_idle;
 ghost use mathlib.Core.Path.{_≡_};
 ghost use mathlib.Core.Bool.{true, not, _&&_, _||_};
 ghost use mathlib.Core.List.{[], _∷_};
@@ -49,29 +49,6 @@ fn without_slot(call: Call) -> bool
     ensures { λ r. ⌜ r ≡ withoutSlot call ⌝ }
 {
     (call.operation == 3) & (call.slot == 255)
-}
-
-fn is_idle(phase: Phase) -> bool
-    ensures { λ r. ⌜ r ≡ isIdle phase ⌝ }
-{
-    match phase {
-        Phase::Idle => true,
-        Phase::Loaded {
-            slot: _,
-            link: _,
-            object: _,
-        } => false,
-        Phase::Published { slot: _, link: _ } => false,
-        Phase::Draining { slot: _ } => false,
-        Phase::Look {
-            object: _,
-            position: _,
-        } => false,
-        Phase::Swap {
-            object: _,
-            position: _,
-        } => false,
-    }
 }
 
 // The lines that look at the call's fields and the sizes alone.

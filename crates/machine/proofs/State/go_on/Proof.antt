@@ -3,7 +3,7 @@ use mathlib.Core.Path.{_∙_}
 use borrow.Author.Needs.{needs}
 use Rattle.machine.specs.GoOn.{goOnOf, goOnFrom}
 use Rattle.machine.proofs.Bounds.{thread-limited, link-limited, positions-limited, link-object}
-use Rattle.machine.proofs.Ranges.{loaded, published, draining, looking, swapping}
+use Rattle.machine.proofs.PhaseBounds.{loaded, published, draining, looking, swapping}
 use Rattle.machine.proofs.State.go_on.Statement.{statement}
 use Rattle.machine.proofs.State.go_on.Tie as tie
 

@@ -11,7 +11,8 @@ use Rattle.machine.specs.Sizes.{positions, within}
 use Rattle.machine.specs.Parts.{phaseOf, positionOf}
 use Rattle.machine.specs.Phases.{phaseInRange}
 use Rattle.machine.specs.Soundness.{sound}
-use Rattle.machine.proofs.Truth.{both, three}
+use Rattle.machine.proofs.Flags.{both}
+use Rattle.machine.proofs.Truth.{three}
 use Rattle.machine.proofs.Bounds.{sizes-limited, positions-limited, position-limited, phase-ranged}
 
 module _ (s : State) (h : sound s ≡ true) (t : ℕ) (lt : t < s .sizes .threads) where

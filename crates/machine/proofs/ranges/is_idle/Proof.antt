@@ -1,8 +1,8 @@
--- `is_idle`, one case for each phase.
+-- `is_idle` meets its contract: each arm knows its case.
 use borrow.Author.Needs.{needs}
 use Rattle.machine.specs.Phases.{isIdle}
-use Rattle.machine.proofs.refusals.is_idle.Statement.{statement}
-use Rattle.machine.proofs.refusals.is_idle.Tie as tie
+use Rattle.machine.proofs.ranges.is_idle.Statement.{statement}
+use Rattle.machine.proofs.ranges.is_idle.Tie as tie
 
 enum-told : tie.Need-enum-told
 enum-told c = search needs
@@ -24,27 +24,27 @@ enum-told-6 c = search needs
 
 returns : tie.Need-returns
 unfolding isIdle
-returns c = rw (c .enum-told .given .1)
+returns c = search needs
 
 returns-2 : tie.Need-returns-2
 unfolding isIdle
-returns-2 c = rw (c .enum-told2 .given .1)
+returns-2 c = search needs
 
 returns-3 : tie.Need-returns-3
 unfolding isIdle
-returns-3 c = rw (c .enum-told3 .given .1)
+returns-3 c = search needs
 
 returns-4 : tie.Need-returns-4
 unfolding isIdle
-returns-4 c = rw (c .enum-told4 .given .1)
+returns-4 c = search needs
 
 returns-5 : tie.Need-returns-5
 unfolding isIdle
-returns-5 c = rw (c .enum-told5 .given .1)
+returns-5 c = search needs
 
 returns-6 : tie.Need-returns-6
 unfolding isIdle
-returns-6 c = rw (c .enum-told6 .given .1)
+returns-6 c = search needs
 
 pub is-idle-spec : {M : Type 1} → statement M
 is-idle-spec =
