@@ -1,9 +1,9 @@
 -- What soundness says of single numbers: sizes, positions, phases, objects. Every index and sum of the code is in range by one of these.
-use Prim.Native.Nat.{ℕ, zero, suc, _*_, _≤_, _<_}
-use mathlib.Core.Bool.{Bool, true, false, not, _&&_, _||_}
+use Prim.Native.Nat.{ℕ, suc, _*_, _≤_, _<_}
+use mathlib.Core.Bool.{true, false, not, _&&_, _||_}
 use mathlib.Core.Path.{_≡_}
 use mathlib.Core.Logic.{_⊎_, ⊎-elim}
-use native.Mathlib.Nat.{mul-le-mul, mul-le-mul-right, suc-mul, le-trans, lt-of-lt-of-le, eq-or-lt-of-le}
+use native.Mathlib.Nat.{mul-le-mul, mul-le-mul-right, suc-mul, le-trans, lt-of-lt-of-le}
 use native.Mathlib.Omega.{arith}
 use lib.Dec.{leb, eqb}
 use lib.ListN.{getD}

@@ -36,7 +36,7 @@ element-set-from-next-2 c = search needs
 
 returns : tie.Need-returns
 unfolding clearOf
-returns c = simp (c .before .before .position .ensures)
+returns c = rw (c .before .before .position .ensures)
 
 pub clear-spec : {M : Type 1} → statement M
 clear-spec =

@@ -1,5 +1,4 @@
 -- `confirm` is the case Published, one return for each of its three ends.
-use mathlib.Core.Path.{sym}
 use borrow.Author.Tests.{eq-eqb, ne-eqb}
 use borrow.Author.Needs.{needs}
 use Rattle.machine.specs.GoOn.{confirmOf}
@@ -35,7 +34,7 @@ element-set-from-next c = search needs
 
 returns : tie.Need-returns
 unfolding confirmOf
-returns c = simp (sym (c .before .before .before .before .position .ensures), ne-eqb _ _ (c .if1 .taken))
+returns c = rw (← (c .before .before .before .before .position .ensures), ne-eqb _ _ (c .if1 .taken))
 
 mul-t18 : tie.Need-mul-t18
 mul-t18 c = search needs
@@ -45,7 +44,7 @@ element-set-from-next-2 c = search needs
 
 returns-2 : tie.Need-returns-2
 unfolding confirmOf
-returns-2 c = simp (sym (c .before .before .before .before .before .position .ensures), eq-eqb _ _ (c .before .if1 .left), eq-eqb _ _ (c .if2 .taken))
+returns-2 c = rw (← (c .before .before .before .before .before .position .ensures), eq-eqb _ _ (c .before .if1 .left), eq-eqb _ _ (c .if2 .taken))
 
 mul-t18-2 : tie.Need-mul-t18-2
 mul-t18-2 c = search needs

@@ -1,5 +1,4 @@
 -- `drain` is the case Draining, one return for each of its two ends.
-use mathlib.Core.Path.{sym}
 use borrow.Author.Tests.{eq-eqb, ne-eqb}
 use borrow.Author.Needs.{needs}
 use Rattle.machine.specs.GoOn.{drainOf}
@@ -38,7 +37,7 @@ element-set-from-next-2 c = search needs
 
 returns : tie.Need-returns
 unfolding drainOf
-returns c = simp (sym (c .before .before .before .position .ensures), eq-eqb _ _ (c .if1 .taken))
+returns c = rw (← (c .before .before .before .position .ensures), eq-eqb _ _ (c .if1 .taken))
 
 mul-t13-2 : tie.Need-mul-t13-2
 mul-t13-2 c = search needs
@@ -48,7 +47,7 @@ element-set-from-next-3 c = search needs
 
 returns-2 : tie.Need-returns-2
 unfolding drainOf
-returns-2 c = simp (sym (c .before .before .before .position .ensures), ne-eqb _ _ (c .if1 .left))
+returns-2 c = rw (← (c .before .before .before .position .ensures), ne-eqb _ _ (c .if1 .left))
 
 pub drain-spec : {M : Type 1} → statement M
 drain-spec =

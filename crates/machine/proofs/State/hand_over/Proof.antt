@@ -31,7 +31,7 @@ element-set-from-next-2 c = search needs
 
 returns : tie.Need-returns
 unfolding handOverOf
-returns c = simp (eq-eqb _ _ (c .if1 .taken))
+returns c = rw (eq-eqb _ _ (c .if1 .taken))
 
 mul-t12-2 : tie.Need-mul-t12-2
 mul-t12-2 c = search needs
@@ -41,7 +41,7 @@ element-set-from-next-3 c = search needs
 
 returns-2 : tie.Need-returns-2
 unfolding handOverOf
-returns-2 c = simp (ne-eqb _ _ (c .if1 .left))
+returns-2 c = rw (ne-eqb _ _ (c .if1 .left))
 
 pub hand-over-spec : {M : Type 1} → statement M
 hand-over-spec =

@@ -33,7 +33,7 @@ element-write-next-2 c = search needs
 
 returns : tie.Need-returns
 unfolding lookOf
-returns c = simp (le-ltb _ _ (le-refl (positions (c .before .args .t1 .sizes))))
+returns c = rw (le-ltb _ _ (le-refl (positions (c .before .args .t1 .sizes))))
 
 pub let-go-spec : {M : Type 1} → statement M
 let-go-spec =

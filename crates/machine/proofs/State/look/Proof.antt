@@ -18,7 +18,7 @@ let-go-requires c κs = search needs
 
 returns : tie.Need-returns
 unfolding lookOf
-returns c = c .let-go .ensures ∙ simp (le-ltb _ _ (c .before .if1 .taken), le-ltb _ _ (le-refl (positions (c .before .before .args .t1 .sizes))))
+returns c = c .let-go .ensures ∙ rw (le-ltb _ _ (c .before .if1 .taken), le-ltb _ _ (le-refl (positions (c .before .before .args .t1 .sizes))))
 
 mul-there : tie.Need-mul-there
 mul-there c = search needs

@@ -1,5 +1,4 @@
 -- `publish` is the case Loaded; the position is the one that the definition names.
-use mathlib.Core.Path.{sym}
 use borrow.Author.Needs.{needs}
 use Rattle.machine.specs.GoOn.{publishOf}
 use Rattle.machine.proofs.State.publish.Statement.{statement}
@@ -37,7 +36,7 @@ element-set-from-next-2 c = search needs
 
 returns : tie.Need-returns
 unfolding publishOf
-returns c = simp (sym (c .before .before .position .ensures))
+returns c = rw (← (c .before .before .position .ensures))
 
 pub publish-spec : {M : Type 1} → statement M
 publish-spec =

@@ -31,7 +31,7 @@ element-copy-out-t17 c = rw (c .before .before .position .ensures) (omega (arith
 
 returns : tie.Need-returns
 unfolding readOf
-returns c = simp (c .before .before .before .position .ensures)
+returns c = rw (c .before .before .before .position .ensures)
 
 pub read-spec : {M : Type 1} → statement M
 read-spec =

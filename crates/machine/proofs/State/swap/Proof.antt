@@ -1,5 +1,4 @@
 -- `swap` does what the table says of it, by whether the link holds what it must.
-use mathlib.Core.Path.{sym}
 use borrow.Author.Tests.{eq-eqb, ne-eqb}
 use borrow.Author.Needs.{needs}
 use Rattle.machine.specs.Calls.{swapOf}
@@ -14,7 +13,7 @@ wanted-requires c κs = search needs
 
 returns : tie.Need-returns
 unfolding swapOf
-returns c = simp (sym (c .before .wanted .ensures), ne-eqb _ _ (c .if1 .taken))
+returns c = rw (← (c .before .wanted .ensures), ne-eqb _ _ (c .if1 .taken))
 
 mul-me : tie.Need-mul-me
 mul-me c = search needs
@@ -33,7 +32,7 @@ element-write-next c = search needs
 
 returns-2 : tie.Need-returns-2
 unfolding swapOf
-returns-2 c = simp (sym (c .before .before .wanted .ensures), eq-eqb _ _ (c .before .if1 .left))
+returns-2 c = rw (← (c .before .before .wanted .ensures), eq-eqb _ _ (c .before .if1 .left))
 
 pub swap-spec : {M : Type 1} → statement M
 swap-spec =

@@ -1,5 +1,4 @@
 -- `take` does what the table says of it. The object it takes is the first free one, so its number is 1 to 240 and one less is an index.
-use mathlib.Core.Path.{sym}
 use borrow.Author.Needs.{needs}
 use Rattle.machine.specs.Calls.{nextFree, takeOf}
 use Rattle.machine.proofs.State.take.Statement.{statement}
@@ -38,7 +37,7 @@ element-write-next-2 c = search needs
 
 returns : tie.Need-returns
 unfolding takeOf nextFree
-returns c = simp (sym (c .before .first-on .ensures .0))
+returns c = rw (← (c .before .first-on .ensures .0))
 
 pub take-spec : {M : Type 1} → statement M
 take-spec =

@@ -1,5 +1,4 @@
 -- `wanted` is what the link must hold for a swap. Only a call that names a slot looks one up.
-use mathlib.Core.Path.{sym}
 use borrow.Author.Tests.{eq-eqb, ne-eqb}
 use borrow.Author.Needs.{needs}
 use Rattle.machine.specs.Calls.{expected}
@@ -8,7 +7,7 @@ use Rattle.machine.proofs.State.wanted.Tie as tie
 
 returns : tie.Need-returns
 unfolding expected
-returns c = simp (eq-eqb _ _ (c .if1 .taken))
+returns c = rw (eq-eqb _ _ (c .if1 .taken))
 
 position-requires : tie.Need-position-requires
 position-requires c κs = c .before .pre (c .if1 .left)
@@ -24,7 +23,7 @@ element-copy-out-held c = rw (c .position .ensures) (c .before .before .pre (c .
 
 returns-2 : tie.Need-returns-2
 unfolding expected
-returns-2 c = simp (sym (c .before .position .ensures), ne-eqb _ _ (c .before .before .if1 .left))
+returns-2 c = rw (← (c .before .position .ensures), ne-eqb _ _ (c .before .before .if1 .left))
 
 pub wanted-spec : {M : Type 1} → statement M
 wanted-spec =

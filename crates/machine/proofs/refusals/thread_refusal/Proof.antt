@@ -1,5 +1,4 @@
 -- `thread_refusal` is the lines 26 to 29 in their order.
-use mathlib.Core.Path.{sym}
 use borrow.Author.Needs.{needs}
 use Rattle.machine.specs.Refusals.{firstOf}
 use Rattle.machine.proofs.refusals.thread_refusal.Statement.{statement}
@@ -10,23 +9,23 @@ is-idle-requires c κs = search needs
 
 returns : tie.Need-returns
 unfolding firstOf
-returns c = simp (sym (c .before .is-idle .ensures), c .if1 .taken)
+returns c = rw (← (c .before .is-idle .ensures), c .if1 .taken)
 
 returns-2 : tie.Need-returns-2
 unfolding firstOf
-returns-2 c = simp (sym (c .before .before .is-idle .ensures), c .before .if1 .left, c .if2 .taken)
+returns-2 c = rw (← (c .before .before .is-idle .ensures), c .before .if1 .left, c .if2 .taken)
 
 returns-3 : tie.Need-returns-3
 unfolding firstOf
-returns-3 c = simp (sym (c .before .before .before .before .is-idle .ensures), c .before .before .before .if1 .left, c .before .before .if2 .left, c .if3 .taken)
+returns-3 c = rw (← (c .before .before .before .before .is-idle .ensures), c .before .before .before .if1 .left, c .before .before .if2 .left, c .if3 .taken)
 
 returns-4 : tie.Need-returns-4
 unfolding firstOf
-returns-4 c = simp (sym (c .before .before .before .before .before .before .is-idle .ensures), c .before .before .before .before .before .if1 .left, c .before .before .before .before .if2 .left, c .before .before .if3 .left, c .if4 .taken)
+returns-4 c = rw (← (c .before .before .before .before .before .before .is-idle .ensures), c .before .before .before .before .before .if1 .left, c .before .before .before .before .if2 .left, c .before .before .if3 .left, c .if4 .taken)
 
 returns-5 : tie.Need-returns-5
 unfolding firstOf
-returns-5 c = simp (sym (c .before .before .before .before .before .before .is-idle .ensures), c .before .before .before .before .before .if1 .left, c .before .before .before .before .if2 .left, c .before .before .if3 .left, c .if4 .left)
+returns-5 c = rw (← (c .before .before .before .before .before .before .is-idle .ensures), c .before .before .before .before .before .if1 .left, c .before .before .before .before .if2 .left, c .before .before .if3 .left, c .if4 .left)
 
 pub thread-refusal-spec : {M : Type 1} → statement M
 thread-refusal-spec =
