@@ -99,9 +99,9 @@ impl State {
         ensures { λ r. ⌜ r ≡ swapOf self thread slot link ⌝ }
     {
         let l = link as usize;
-        let object = self.links[l];
+        let there = self.links[l];
         let wanted = self.wanted(thread, slot);
-        if object != wanted {
+        if there != wanted {
             return Outcome {
                 state: self,
                 answer: Answer::Moved,
@@ -111,14 +111,11 @@ impl State {
         let me = self.threads[t];
         let phase = me.phase;
         let mut next = self;
-        next.threads[t] = Thread {
-            hand: object,
-            phase,
-        };
+        next.threads[t] = Thread { hand: there, phase };
         next.links[l] = me.hand;
         Outcome {
             state: next,
-            answer: Answer::Swapped(object),
+            answer: Answer::Swapped(there),
         }
     }
 
@@ -131,9 +128,10 @@ impl State {
         let p = position(thread, self.sizes.slots, slot) as usize;
         let held = self.slots[p];
         let o = held.hazard as usize - 1;
+        let tag = self.tags[o];
         Outcome {
             state: self,
-            answer: Answer::Tag(self.tags[o]),
+            answer: Answer::Tag(tag),
         }
     }
 
@@ -144,18 +142,18 @@ impl State {
     {
         let t = thread as usize;
         let me = self.threads[t];
-        let object = me.hand;
+        let carried = me.hand;
         let mut next = self;
         next.threads[t] = Thread {
             hand: 0,
             phase: Phase::Look {
-                object,
+                object: carried,
                 position: 0,
             },
         };
         Outcome {
             state: next,
-            answer: Answer::Begun(object),
+            answer: Answer::Begun(carried),
         }
     }
 

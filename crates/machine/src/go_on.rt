@@ -80,9 +80,10 @@ impl State {
             handover: held.handover,
         };
         let o = object as usize - 1;
+        let tag = self.tags[o];
         Outcome {
             state: next,
-            answer: Answer::Protected(object, self.tags[o]),
+            answer: Answer::Protected(object, tag),
         }
     }
 
@@ -202,12 +203,13 @@ impl State {
                 answer: Answer::Left(object, position),
             };
         }
+        let phase = Phase::Look {
+            object: old,
+            position,
+        };
         next.threads[t] = Thread {
             hand: me.hand,
-            phase: Phase::Look {
-                object: old,
-                position,
-            },
+            phase,
         };
         Outcome {
             state: next,

@@ -90,16 +90,17 @@ fn thread_refusal(me: Thread, operation: u8) -> u8
 {
     let phase = me.phase;
     let idle = is_idle(phase);
+    let hand = me.hand;
     if (1 <= operation) & (operation <= 6) & !idle {
         return 26;
     }
     if (operation == 7) & idle {
         return 27;
     }
-    if (operation == 1) & !(me.hand == 0) {
+    if (operation == 1) & !(hand == 0) {
         return 28;
     }
-    if (operation == 5) & (me.hand == 0) {
+    if (operation == 5) & (hand == 0) {
         return 29;
     }
     0

@@ -26,8 +26,8 @@ mul-me c = search needs
 element-copy-out-me : tie.Need-element-copy-out-me
 element-copy-out-me c = search needs
 
-mul-t29 : tie.Need-mul-t29
-mul-t29 c = search needs
+mul-t30 : tie.Need-mul-t30
+mul-t30 c = search needs
 
 element-set-from-next : tie.Need-element-set-from-next
 element-set-from-next c = search needs
@@ -36,8 +36,8 @@ returns : tie.Need-returns
 unfolding confirmOf
 returns c = rw (← (c .before .before .before .before .position .ensures), ne-eqb _ _ (c .if1 .taken))
 
-mul-t18 : tie.Need-mul-t18
-mul-t18 c = search needs
+mul-t19 : tie.Need-mul-t19
+mul-t19 c = search needs
 
 element-set-from-next-2 : tie.Need-element-set-from-next-2
 element-set-from-next-2 c = search needs
@@ -46,8 +46,8 @@ returns-2 : tie.Need-returns-2
 unfolding confirmOf
 returns-2 c = rw (← (c .before .before .before .before .before .position .ensures), eq-eqb _ _ (c .before .if1 .left), eq-eqb _ _ (c .if2 .taken))
 
-mul-t18-2 : tie.Need-mul-t18-2
-mul-t18-2 c = search needs
+mul-t19-2 : tie.Need-mul-t19-2
+mul-t19-2 c = search needs
 
 element-set-from-next-3 : tie.Need-element-set-from-next-3
 element-set-from-next-3 c = search needs
@@ -58,20 +58,15 @@ cast-o c = search needs
 sub-o : tie.Need-sub-o
 sub-o c = search needs
 
-mul-t18-3 : tie.Need-mul-t18-3
-mul-t18-3 c = search needs
+mul-tag : tie.Need-mul-tag
+mul-tag c = search needs
 
-element-copy-out-t43 : tie.Need-element-copy-out-t43
-element-copy-out-t43 c = search needs
+element-copy-out-tag : tie.Need-element-copy-out-tag
+element-copy-out-tag c = search needs
 
 returns-3 : tie.Need-returns-3
 unfolding confirmOf
-returns-3 c =
-    rw (
-      ← (c .before .before .before .before .before .before .position .ensures),
-      eq-eqb _ _ (c .before .before .if1 .left),
-      ne-eqb _ _ (c .before .if2 .left),
-    )
+returns-3 c = rw (← (c .before .before .before .before .before .before .position .ensures), eq-eqb _ _ (c .before .before .if1 .left), ne-eqb _ _ (c .before .if2 .left))
 
 pub confirm-spec : {M : Type 1} → statement M
 confirm-spec =
@@ -84,16 +79,16 @@ confirm-spec =
     element-copy-out-held
     mul-me
     element-copy-out-me
-    mul-t29
+    mul-t30
     element-set-from-next
     returns
-    mul-t18
+    mul-t19
     element-set-from-next-2
     returns-2
-    mul-t18-2
+    mul-t19-2
     element-set-from-next-3
     cast-o
     sub-o
-    mul-t18-3
-    element-copy-out-t43
+    mul-tag
+    element-copy-out-tag
     returns-3)

@@ -23,11 +23,11 @@ cast-o c = search needs
 sub-o : tie.Need-sub-o
 sub-o c = rw (c .before .before .position .ensures) (c .before .before .before .pre .1 .1)
 
-mul-t10 : tie.Need-mul-t10
-mul-t10 c = search needs
+mul-tag : tie.Need-mul-tag
+mul-tag c = search needs
 
-element-copy-out-t17 : tie.Need-element-copy-out-t17
-element-copy-out-t17 c = rw (c .before .before .position .ensures) (omega (arith, c .before .before .before .pre .1))
+element-copy-out-tag : tie.Need-element-copy-out-tag
+element-copy-out-tag c = rw (c .before .before .position .ensures) (omega (arith, c .before .before .before .pre .1))
 
 returns : tie.Need-returns
 unfolding readOf
@@ -43,6 +43,6 @@ read-spec =
     element-copy-out-held
     cast-o
     sub-o
-    mul-t10
-    element-copy-out-t17
+    mul-tag
+    element-copy-out-tag
     returns)

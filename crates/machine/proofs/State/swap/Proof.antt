@@ -5,8 +5,8 @@ use Rattle.machine.specs.Calls.{swapOf}
 use Rattle.machine.proofs.State.swap.Statement.{statement}
 use Rattle.machine.proofs.State.swap.Tie as tie
 
-element-copy-out-object : tie.Need-element-copy-out-object
-element-copy-out-object c = search needs
+element-copy-out-there : tie.Need-element-copy-out-there
+element-copy-out-there c = search needs
 
 wanted-requires : tie.Need-wanted-requires
 wanted-requires c κs = search needs
@@ -38,7 +38,7 @@ pub swap-spec : {M : Type 1} → statement M
 swap-spec =
     tie.close
     (tie.spec
-    element-copy-out-object
+    element-copy-out-there
     wanted-requires
     returns
     mul-me

@@ -17,15 +17,15 @@ returns-2 c = rw (← (c .before .before .is-idle .ensures), c .before .if1 .lef
 
 returns-3 : tie.Need-returns-3
 unfolding firstOf
-returns-3 c = rw (← (c .before .before .before .before .is-idle .ensures), c .before .before .before .if1 .left, c .before .before .if2 .left, c .if3 .taken)
+returns-3 c = rw (← (c .before .before .before .is-idle .ensures), c .before .before .if1 .left, c .before .if2 .left, c .if3 .taken)
 
 returns-4 : tie.Need-returns-4
 unfolding firstOf
-returns-4 c = rw (← (c .before .before .before .before .before .before .is-idle .ensures), c .before .before .before .before .before .if1 .left, c .before .before .before .before .if2 .left, c .before .before .if3 .left, c .if4 .taken)
+returns-4 c = rw (← (c .before .before .before .before .is-idle .ensures), c .before .before .before .if1 .left, c .before .before .if2 .left, c .before .if3 .left, c .if4 .taken)
 
 returns-5 : tie.Need-returns-5
 unfolding firstOf
-returns-5 c = rw (← (c .before .before .before .before .before .before .is-idle .ensures), c .before .before .before .before .before .if1 .left, c .before .before .before .before .if2 .left, c .before .before .if3 .left, c .if4 .left)
+returns-5 c = rw (← (c .before .before .before .before .is-idle .ensures), c .before .before .before .if1 .left, c .before .before .if2 .left, c .before .if3 .left, c .if4 .left)
 
 pub thread-refusal-spec : {M : Type 1} → statement M
 thread-refusal-spec =
