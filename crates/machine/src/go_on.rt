@@ -203,9 +203,11 @@ impl State {
                 answer: Answer::Left(object, position),
             };
         }
+        // "The same position is looked at again."
+        let again = position;
         let phase = Phase::Look {
             object: old,
-            position,
+            position: again,
         };
         next.threads[t] = Thread {
             hand: me.hand,

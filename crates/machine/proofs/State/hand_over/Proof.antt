@@ -11,8 +11,8 @@ mul-there c = search needs
 element-copy-out-there : tie.Need-element-copy-out-there
 element-copy-out-there c = search needs
 
-mul-t13 : tie.Need-mul-t13
-mul-t13 c = search needs
+mul-t14 : tie.Need-mul-t14
+mul-t14 c = search needs
 
 element-set-from-next : tie.Need-element-set-from-next
 element-set-from-next c = search needs
@@ -23,8 +23,8 @@ mul-me c = search needs
 element-copy-out-me : tie.Need-element-copy-out-me
 element-copy-out-me c = search needs
 
-mul-t26 : tie.Need-mul-t26
-mul-t26 c = search needs
+mul-t27 : tie.Need-mul-t27
+mul-t27 c = search needs
 
 element-set-from-next-2 : tie.Need-element-set-from-next-2
 element-set-from-next-2 c = search needs
@@ -33,8 +33,8 @@ returns : tie.Need-returns
 unfolding handOverOf
 returns c = rw (eq-eqb _ _ (c .if1 .taken))
 
-mul-t13-2 : tie.Need-mul-t13-2
-mul-t13-2 c = search needs
+mul-t14-2 : tie.Need-mul-t14-2
+mul-t14-2 c = search needs
 
 element-set-from-next-3 : tie.Need-element-set-from-next-3
 element-set-from-next-3 c = search needs
@@ -49,13 +49,13 @@ hand-over-spec =
     (tie.spec
     mul-there
     element-copy-out-there
-    mul-t13
+    mul-t14
     element-set-from-next
     mul-me
     element-copy-out-me
-    mul-t26
+    mul-t27
     element-set-from-next-2
     returns
-    mul-t13-2
+    mul-t14-2
     element-set-from-next-3
     returns-2)
