@@ -130,7 +130,8 @@ impl State {
         requires { ⌜ (0 < object) × (object ≤ 240) ⌝ }
         ensures { λ r. ⌜ r ≡ lookOf self thread object position ⌝ }
     {
-        if self.sizes.threads * self.sizes.slots <= position {
+        let end = self.sizes.threads * self.sizes.slots;
+        if end <= position {
             return self.let_go(thread, object);
         }
         let p = position as usize;

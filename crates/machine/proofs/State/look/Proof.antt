@@ -10,8 +10,8 @@ use Rattle.machine.specs.GoOn.{lookOf}
 use Rattle.machine.proofs.State.look.Statement.{statement}
 use Rattle.machine.proofs.State.look.Tie as tie
 
-mul-if1 : tie.Need-mul-if1
-mul-if1 c = search needs
+mul-end : tie.Need-mul-end
+mul-end c = search needs
 
 let-go-requires : tie.Need-let-go-requires
 let-go-requires c κs = search needs
@@ -54,7 +54,7 @@ pub look-spec : {M : Type 1} → statement M
 look-spec =
     tie.close
     (tie.spec
-    mul-if1
+    mul-end
     let-go-requires
     returns
     mul-there
