@@ -6,7 +6,7 @@ use crate::Slot;
 use crate::State;
 use crate::Thread;
 ghost use mathlib.Core.Path.{_≡_};
-ghost use Prim.Native.Nat.{_+_, _*_, _-_, _<_, _≤_};
+ghost use Prim.Native.Nat.{_+_, _*_, _<_, _≤_};
 ghost use lib.ListN.{length};
 ghost use Rattle.machine.specs.Parts.{positionOf, slotAt};
 ghost use Rattle.machine.specs.Calls.{firstOn, nextFree, expected, takeOf, protectOf, swapOf, readOf, retireOf, clearOf};
@@ -122,7 +122,8 @@ impl State {
     // read: no effect
     pub(crate) fn read(self, thread: u8, slot: u8) -> Outcome
         requires { ⌜ positionOf self thread slot < 32 ⌝ }
-        requires { ⌜ ((slotAt self (positionOf self thread slot)) .hazard ≤ 240) × (0 < (slotAt self (positionOf self thread slot)) .hazard) ⌝ }
+        requires { ⌜ (slotAt self (positionOf self thread slot)) .hazard ≤ 240 ⌝ }
+        requires { ⌜ 0 < (slotAt self (positionOf self thread slot)) .hazard ⌝ }
         ensures { λ r. ⌜ r ≡ readOf self thread slot ⌝ }
     {
         let p = position(thread, self.sizes.slots, slot) as usize;
