@@ -1,6 +1,5 @@
 -- `reads_slot` is the first half of the test of line 31.
 use borrow.Author.Needs.{needs}
-use Rattle.machine.proofs.refusals.reads_slot.Reads as reads
 use Rattle.machine.proofs.refusals.reads_slot.Statement.{statement}
 use Rattle.machine.proofs.refusals.reads_slot.Tie as tie
 
