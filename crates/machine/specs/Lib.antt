@@ -3,6 +3,7 @@ pub mod Sizes
 pub mod Parts
 pub mod Phases
 pub mod Soundness
+pub mod Tally
 pub mod Fresh
 pub mod Calls
 pub mod GoOn

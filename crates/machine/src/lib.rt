@@ -1,4 +1,16 @@
 // The record machine: the state, start, the soundness check, one step, and the count of the five places.
+mod calls;
+mod entries;
+mod fresh;
+mod go_on;
+mod ranges;
+mod refusals;
+mod soundness;
+mod step;
+mod tally;
+
+pub use fresh::start;
+
 pub struct Sizes {
     pub threads: u8,
     pub slots: u8,

@@ -1,0 +1,67 @@
+-- `each_once` meets its contract. The loop's invariant: the objects passed are in one place each.
+use Prim.Native.Nat.{_+_, _≤_, _-_}
+use mathlib.Core.Path.{_≡_, refl, sym}
+use mathlib.Core.Bool.{true, false}
+use native.Mathlib.Omega.{arith}
+use lib.ListN.{getD}
+use lib.Dec.{eqb}
+use Rattle.machine.specs.Soundness.{below, bit}
+use Rattle.machine.proofs.Flags.{refused, passed}
+use Rattle.machine.proofs.Below.{below-more, below-fails, below-fewer}
+use borrow.Author.Needs.{needs}
+use Rattle.machine.proofs.tally.each_once.Statement.{statement}
+use Rattle.machine.proofs.tally.each_once.Tie as tie
+
+abbrev Inv-loop : tie.InvT-loop
+Inv-loop n free counts end k₀ k = (end ≡ n) × (k ≤ n) × (below k (λ j. eqb (bit (getD free j false) + getD counts j 0) 1) ≡ true)
+
+abbrev μ-loop : tie.MeasureT-loop
+μ-loop n free counts end k₀ k = n - k
+
+wide-requires : tie.Need-wide-requires Inv-loop μ-loop
+wide-requires c κs = search needs
+
+loop-holds : tie.Need-loop-holds Inv-loop μ-loop
+unfolding below
+loop-holds c = (c .wide .ensures, omega arith, refl)
+
+element-copy-out-once : tie.Need-element-copy-out-once Inv-loop μ-loop
+element-copy-out-once c = omega arith
+
+element-copy-out-once-2 : tie.Need-element-copy-out-once-2 Inv-loop μ-loop
+element-copy-out-once-2 c = omega arith
+
+once-requires : tie.Need-once-requires Inv-loop μ-loop
+once-requires c κs = search needs
+
+returns : tie.Need-returns Inv-loop μ-loop
+returns c = sym (below-fails (c .before .before .before .before .before .loop .k) _ _ (omega arith) (refused (c .before .once .ensures) (c .if1 .taken)))
+
+add-k : tie.Need-add-k Inv-loop μ-loop
+add-k c = omega arith
+
+loop-less : tie.Need-loop-less Inv-loop μ-loop
+loop-less c = omega arith
+
+loop-again : tie.Need-loop-again Inv-loop μ-loop
+loop-again c = (c .before .before .before .before .before .loop .inv .0, omega arith, below-more (c .before .before .before .before .before .loop .k) _ (c .before .before .before .before .before .loop .inv .2) (passed (c .before .once .ensures) (c .if1 .left)))
+
+returns-2 : tie.Need-returns-2 Inv-loop μ-loop
+returns-2 c = sym (below-fewer (c .before .before .before .args .n) (c .before .loop .k) _ (omega arith) (c .before .loop .inv .2))
+
+pub each-once-spec : {M : Type 1} → statement M
+each-once-spec =
+    tie.close
+    (tie.spec
+    Inv-loop
+    μ-loop
+    wide-requires
+    loop-holds
+    element-copy-out-once
+    element-copy-out-once-2
+    once-requires
+    returns
+    add-k
+    loop-less
+    loop-again
+    returns-2)

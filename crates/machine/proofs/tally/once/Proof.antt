@@ -1,0 +1,20 @@
+-- `once` meets its contract: a free object stands nowhere else, another in one place.
+use mathlib.Core.Path.{sym}
+use native.Mathlib.Nat.{zero-add}
+use native.Mathlib.Numerals.{one-add}
+use lib.Dec.{eqb·suc-suc}
+use Rattle.machine.specs.Soundness.{bit}
+use borrow.Author.Needs.{needs}
+use Rattle.machine.proofs.tally.once.Statement.{statement}
+use Rattle.machine.proofs.tally.once.Tie as tie
+
+returns : tie.Need-returns
+unfolding bit
+returns c = rw (c .if1 .taken, one-add (c .before .args .count)) (sym (eqb·suc-suc (c .before .args .count) 0))
+
+returns-2 : tie.Need-returns-2
+unfolding bit
+returns-2 c = rw (c .if1 .left, zero-add (c .before .args .count))
+
+pub once-spec : {M : Type 1} → statement M
+once-spec = tie.close (tie.spec returns returns-2)

@@ -1,0 +1,185 @@
+// The table of calls: what each does when it is accepted. Going on is in go_on.rt, what is accepted in refusals.rt.
+use crate::Answer;
+use crate::Outcome;
+use crate::Phase;
+use crate::Slot;
+use crate::State;
+use crate::Thread;
+ghost use mathlib.Core.Path.{_≡_};
+ghost use Prim.Native.Nat.{_+_, _*_, _<_, _≤_};
+ghost use lib.ListN.{length};
+ghost use Rattle.machine.specs.Parts.{positionOf, slotAt};
+ghost use Rattle.machine.specs.Calls.{firstOn, nextFree, expected, takeOf, protectOf, swapOf, readOf, retireOf, clearOf};
+
+// "A slot's position is thread × H + slot"
+pub(crate) fn position(thread: u8, slots: u8, slot: u8) -> u8
+    requires { ⌜ thread * slots + slot < 32 ⌝ }
+    ensures { λ r. ⌜ r ≡ thread * slots + slot ⌝ }
+{
+    thread * slots + slot
+}
+
+// The number of the first mark that is on; 0 where none is.
+pub(crate) fn first_on(marks: &[bool; 240]) -> u8
+    requires { ⌜ length (now marks) ≡ 240 ⌝ }
+    ensures number { λ r. ⌜ r ≡ firstOn 0 (now (marks .entry)) ⌝ }
+    ensures within { λ r. ⌜ r ≤ 240 ⌝ }
+{
+    let mut k: usize = 0;
+    while k < 240 {
+        if marks[k] {
+            return k as u8 + 1;
+        }
+        k += 1;
+    }
+    0
+}
+
+impl State {
+    // take: "lowest-numbered free object goes to the hand with this tag"
+    pub(crate) fn take(self, thread: u8, tag: u32) -> Outcome
+        requires { ⌜ (thread < 8) × (0 < nextFree self) ⌝ }
+        ensures { λ r. ⌜ r ≡ takeOf self thread tag ⌝ }
+    {
+        let object = first_on(&self.free);
+        let t = thread as usize;
+        let me = self.threads[t];
+        let phase = me.phase;
+        let mut next = self;
+        next.threads[t] = Thread {
+            hand: object,
+            phase,
+        };
+        let o = object as usize - 1;
+        next.free[o] = false;
+        next.tags[o] = tag;
+        Outcome {
+            state: next,
+            answer: Answer::Taken(object),
+        }
+    }
+
+    // protect: "read the link; become Loaded"
+    pub(crate) fn protect(self, thread: u8, slot: u8, link: u8) -> Outcome
+        requires { ⌜ (thread < 8) × (link < 16) ⌝ }
+        ensures { λ r. ⌜ r ≡ protectOf self thread slot link ⌝ }
+    {
+        let t = thread as usize;
+        let l = link as usize;
+        let object = self.links[l];
+        let me = self.threads[t];
+        let mut next = self;
+        next.threads[t] = Thread {
+            hand: me.hand,
+            phase: Phase::Loaded { slot, link, object },
+        };
+        Outcome {
+            state: next,
+            answer: Answer::Begun(object),
+        }
+    }
+
+    // what the link must hold for a swap: "the slot's object (255: holds 0)"
+    fn wanted(self, thread: u8, slot: u8) -> u8
+        requires { ⌜ ((slot ≡ 255 → ⊥) → positionOf self thread slot < 32) ⌝ }
+        ensures { λ r. ⌜ r ≡ expected self thread slot ⌝ }
+    {
+        if slot == 255 {
+            return 0;
+        }
+        let p = position(thread, self.sizes.slots, slot) as usize;
+        let held = self.slots[p];
+        held.hazard
+    }
+
+    // swap: "if the link holds the slot's object (255: holds 0), link and hand change places"
+    pub(crate) fn swap(self, thread: u8, slot: u8, link: u8) -> Outcome
+        requires { ⌜ (thread < 8) × (link < 16) ⌝ }
+        requires { ⌜ ((slot ≡ 255 → ⊥) → positionOf self thread slot < 32) ⌝ }
+        ensures { λ r. ⌜ r ≡ swapOf self thread slot link ⌝ }
+    {
+        let l = link as usize;
+        let there = self.links[l];
+        let wanted = self.wanted(thread, slot);
+        if there != wanted {
+            return Outcome {
+                state: self,
+                answer: Answer::Moved,
+            };
+        }
+        let t = thread as usize;
+        let me = self.threads[t];
+        let phase = me.phase;
+        let mut next = self;
+        next.threads[t] = Thread { hand: there, phase };
+        next.links[l] = me.hand;
+        Outcome {
+            state: next,
+            answer: Answer::Swapped(there),
+        }
+    }
+
+    // read: no effect
+    pub(crate) fn read(self, thread: u8, slot: u8) -> Outcome
+        requires { ⌜ positionOf self thread slot < 32 ⌝ }
+        requires { ⌜ (slotAt self (positionOf self thread slot)) .hazard ≤ 240 ⌝ }
+        requires { ⌜ 0 < (slotAt self (positionOf self thread slot)) .hazard ⌝ }
+        ensures { λ r. ⌜ r ≡ readOf self thread slot ⌝ }
+    {
+        let p = position(thread, self.sizes.slots, slot) as usize;
+        let held = self.slots[p];
+        let o = held.hazard as usize - 1;
+        let tag = self.tags[o];
+        Outcome {
+            state: self,
+            answer: Answer::Tag(tag),
+        }
+    }
+
+    // retire: "hand is emptied; become Look(that object, 0)"
+    pub(crate) fn retire(self, thread: u8) -> Outcome
+        requires { ⌜ thread < 8 ⌝ }
+        ensures { λ r. ⌜ r ≡ retireOf self thread ⌝ }
+    {
+        let t = thread as usize;
+        let me = self.threads[t];
+        let carried = me.hand;
+        let mut next = self;
+        next.threads[t] = Thread {
+            hand: 0,
+            phase: Phase::Look {
+                object: carried,
+                position: 0,
+            },
+        };
+        Outcome {
+            state: next,
+            answer: Answer::Begun(carried),
+        }
+    }
+
+    // clear: "hazard 0, mark off; become Draining"
+    pub(crate) fn clear(self, thread: u8, slot: u8) -> Outcome
+        requires { ⌜ (thread < 8) × (positionOf self thread slot < 32) ⌝ }
+        ensures { λ r. ⌜ r ≡ clearOf self thread slot ⌝ }
+    {
+        let p = position(thread, self.sizes.slots, slot) as usize;
+        let held = self.slots[p];
+        let mut next = self;
+        next.slots[p] = Slot {
+            hazard: 0,
+            mark: false,
+            handover: held.handover,
+        };
+        let t = thread as usize;
+        let me = self.threads[t];
+        next.threads[t] = Thread {
+            hand: me.hand,
+            phase: Phase::Draining { slot },
+        };
+        Outcome {
+            state: next,
+            answer: Answer::Begun(0),
+        }
+    }
+}

@@ -1,0 +1,168 @@
+// "The first that applies is given, in this order, and never otherwise."
+use crate::Call;
+use crate::Sizes;
+use crate::State;
+use crate::Thread;
+use crate::calls::first_on;
+use crate::calls::position;
+use crate::ranges::is_idle;
+ghost use mathlib.Core.Path.{_≡_};
+ghost use mathlib.Core.Bool.{true, not, _&&_, _||_};
+ghost use mathlib.Core.List.{[], _∷_};
+ghost use Prim.Native.Nat.{_<_};
+ghost use lib.Dec.{ltb, eqb};
+ghost use Rattle.machine.specs.Sizes.{within};
+ghost use Rattle.machine.specs.Parts.{positionOf};
+ghost use Rattle.machine.specs.Phases.{isIdle};
+ghost use Rattle.machine.specs.Calls.{nextFree};
+ghost use Rattle.machine.specs.Refusals.{usesSlot, usesLink, usesTag, unusedNotZero, withoutSlot, protectedAt, _when_, firstOf, refusalOf};
+
+// the column "Uses"
+
+fn uses_slot(operation: u8) -> bool
+    ensures { λ r. ⌜ r ≡ usesSlot operation ⌝ }
+{
+    (operation == 2) | (operation == 3) | (operation == 4) | (operation == 6)
+}
+
+fn uses_link(operation: u8) -> bool
+    ensures { λ r. ⌜ r ≡ usesLink operation ⌝ }
+{
+    (operation == 2) | (operation == 3)
+}
+
+fn uses_tag(operation: u8) -> bool
+    ensures { λ r. ⌜ r ≡ usesTag operation ⌝ }
+{
+    operation == 1
+}
+
+fn unused_not_zero(call: Call) -> bool
+    ensures { λ r. ⌜ r ≡ unusedNotZero call ⌝ }
+{
+    !(uses_slot(call.operation) | (call.slot == 0))
+        | !(uses_link(call.operation) | (call.link == 0))
+        | !(uses_tag(call.operation) | (call.tag == 0))
+}
+
+fn without_slot(call: Call) -> bool
+    ensures { λ r. ⌜ r ≡ withoutSlot call ⌝ }
+{
+    (call.operation == 3) & (call.slot == 255)
+}
+
+// The lines that look at the call's fields and the sizes alone.
+fn field_refusal(sizes: Sizes, call: Call) -> u8
+    ensures { λ r. ⌜ r ≡ firstOf
+        ((21 when not (ltb (call .thread) (sizes .threads))) ∷
+        (22 when not (within 1 7 (call .operation))) ∷
+        (23 when unusedNotZero call) ∷
+        (24 when usesSlot (call .operation) && not (ltb (call .slot) (sizes .slots)) && not (withoutSlot call)) ∷
+        (25 when usesLink (call .operation) && not (ltb (call .link) (sizes .links))) ∷
+        []) ⌝ }
+{
+    if sizes.threads <= call.thread {
+        return 21;
+    }
+    if !((1 <= call.operation) & (call.operation <= 7)) {
+        return 22;
+    }
+    if unused_not_zero(call) {
+        return 23;
+    }
+    if uses_slot(call.operation) & !(call.slot < sizes.slots) & !without_slot(call) {
+        return 24;
+    }
+    if uses_link(call.operation) & !(call.link < sizes.links) {
+        return 25;
+    }
+    0
+}
+
+// The lines that look at what the thread is in the middle of and at its hand.
+fn thread_refusal(me: Thread, operation: u8) -> u8
+    ensures { λ r. ⌜ r ≡ firstOf
+        ((26 when within 1 6 operation && not (isIdle (me .phase))) ∷
+        (27 when eqb operation 7 && isIdle (me .phase)) ∷
+        (28 when eqb operation 1 && not (eqb (me .hand) 0)) ∷
+        (29 when eqb operation 5 && eqb (me .hand) 0) ∷
+        []) ⌝ }
+{
+    let phase = me.phase;
+    let idle = is_idle(phase);
+    let hand = me.hand;
+    if (1 <= operation) & (operation <= 6) & !idle {
+        return 26;
+    }
+    if (operation == 7) & idle {
+        return 27;
+    }
+    if (operation == 1) & !(hand == 0) {
+        return 28;
+    }
+    if (operation == 5) & (hand == 0) {
+        return 29;
+    }
+    0
+}
+
+// Whether the call reads the object of its slot: "swap with a slot, or read"
+fn reads_slot(call: Call) -> bool
+    ensures { λ r. ⌜ r ≡ ((eqb (call .operation) 3 && not (withoutSlot call)) || eqb (call .operation) 4) ⌝ }
+{
+    ((call.operation == 3) & !without_slot(call)) | (call.operation == 4)
+}
+
+impl State {
+    // "swap with a slot, or read: slot not protected"
+    fn unprotected(self, call: Call) -> bool
+        requires { ⌜ (((eqb (call .operation) 3 && not (withoutSlot call)) || eqb (call .operation) 4) ≡ true →
+            positionOf self (call .thread) (call .slot) < 32) ⌝ }
+        ensures { λ r. ⌜ r ≡
+            (((eqb (call .operation) 3 && not (withoutSlot call)) || eqb (call .operation) 4) && not (protectedAt self call)) ⌝ }
+    {
+        if !reads_slot(call) {
+            return false;
+        }
+        let p = position(call.thread, self.sizes.slots, call.slot) as usize;
+        let held = self.slots[p];
+        !held.mark
+    }
+
+    // "take: no object free"
+    fn none_free(self, operation: u8) -> bool
+        ensures { λ r. ⌜ r ≡ (eqb operation 1 && eqb (nextFree self) 0) ⌝ }
+    {
+        if operation != 1 {
+            return false;
+        }
+        first_on(&self.free) == 0
+    }
+
+    // The number of the first line that applies; 0 where none does.
+    pub(crate) fn refusal(self, call: Call) -> u8
+        ensures { λ r. ⌜ r ≡ refusalOf self call ⌝ }
+    {
+        if !self.is_sound() {
+            return 19;
+        }
+        let sizes = self.sizes;
+        let field = field_refusal(sizes, call);
+        if field != 0 {
+            return field;
+        }
+        let t = call.thread as usize;
+        let me = self.threads[t];
+        let busy = thread_refusal(me, call.operation);
+        if busy != 0 {
+            return busy;
+        }
+        if self.unprotected(call) {
+            return 31;
+        }
+        if self.none_free(call.operation) {
+            return 30;
+        }
+        0
+    }
+}

@@ -1,0 +1,114 @@
+// "every object 1 to N is in exactly one place": the places other than the free marks are counted for each object, then each object
+// is looked at once.
+use crate::Slot;
+use crate::Thread;
+use crate::ranges::carried;
+use crate::ranges::wide;
+ghost use mathlib.Core.Path.{_≡_};
+ghost use mathlib.Core.Bool.{false};
+ghost use Prim.Native.Nat.{ℕ, _+_, _≤_, _<_};
+ghost use lib.ListN.{length, getD, replicate};
+ghost use lib.Dec.{eqb};
+ghost use Rattle.machine.specs.Phases.{carriedBy};
+ghost use Rattle.machine.specs.Soundness.{below, bit};
+ghost use Rattle.machine.specs.Tally.{tally, tallied};
+
+// 0 is no object, and a number above 240 has no count: the range tests refuse it.
+fn count_one(counts: &mut [u8; 240], object: u8)
+    requires { ⌜ (length (now counts) ≡ 240) × ((k : ℕ) → getD (now counts) k 0 < 255) ⌝ }
+    ensures { λ _. ⌜ now (counts .exit) ≡ tally (now (counts .entry)) object ⌝ }
+{
+    if object == 0 {
+        return;
+    }
+    if 240 < object {
+        return;
+    }
+    let k = wide(object) - 1;
+    counts[k] = counts[k] + 1;
+}
+
+fn count_links(counts: &mut [u8; 240], links: [u8; 16])
+    requires { ⌜ (length (now counts) ≡ 240) × ((k : ℕ) → getD (now counts) k 0 ≤ 200) ⌝ }
+    ensures { λ _. ⌜ now (counts .exit) ≡ tallied (λ link. link) links (now (counts .entry)) ⌝ }
+{
+    let mut i = 0;
+    while i < 16 {
+        count_one(counts, links[i]);
+        i += 1;
+    }
+}
+
+fn count_hands(counts: &mut [u8; 240], threads: [Thread; 8])
+    requires { ⌜ (length (now counts) ≡ 240) × ((k : ℕ) → getD (now counts) k 0 ≤ 200) ⌝ }
+    ensures { λ _. ⌜ now (counts .exit) ≡ tallied (λ thread. thread .hand) threads (now (counts .entry)) ⌝ }
+{
+    let mut i = 0;
+    while i < 8 {
+        let thread = threads[i];
+        count_one(counts, thread.hand);
+        i += 1;
+    }
+}
+
+fn count_handovers(counts: &mut [u8; 240], slots: [Slot; 32])
+    requires { ⌜ (length (now counts) ≡ 240) × ((k : ℕ) → getD (now counts) k 0 ≤ 200) ⌝ }
+    ensures { λ _. ⌜ now (counts .exit) ≡ tallied (λ slot. slot .handover) slots (now (counts .entry)) ⌝ }
+{
+    let mut i = 0;
+    while i < 32 {
+        let slot = slots[i];
+        count_one(counts, slot.handover);
+        i += 1;
+    }
+}
+
+fn count_carried(counts: &mut [u8; 240], threads: [Thread; 8])
+    requires { ⌜ (length (now counts) ≡ 240) × ((k : ℕ) → getD (now counts) k 0 ≤ 200) ⌝ }
+    ensures { λ _. ⌜ now (counts .exit) ≡ tallied (λ thread. carriedBy (thread .phase)) threads (now (counts .entry)) ⌝ }
+{
+    let mut i = 0;
+    while i < 8 {
+        let thread = threads[i];
+        let phase = thread.phase;
+        count_one(counts, carried(phase));
+        i += 1;
+    }
+}
+
+// How often each object is in a link, a hand, a handover or carried.
+pub fn counts_of(links: [u8; 16], threads: [Thread; 8], slots: [Slot; 32]) -> [u8; 240]
+    ensures { λ r. ⌜ r ≡
+        tallied (λ thread. carriedBy (thread .phase)) threads
+        (tallied (λ slot. slot .handover) slots
+        (tallied (λ thread. thread .hand) threads
+        (tallied (λ link. link) links (replicate 240 0)))) ⌝ }
+{
+    let mut counts = [0; 240];
+    count_links(&mut counts, links);
+    count_hands(&mut counts, threads);
+    count_handovers(&mut counts, slots);
+    count_carried(&mut counts, threads);
+    counts
+}
+
+fn once(free: bool, count: u8) -> bool
+    ensures { λ r. ⌜ r ≡ eqb (bit free + count) 1 ⌝ }
+{
+    if free { count == 0 } else { count == 1 }
+}
+
+pub fn each_once(n: u8, free: &[bool; 240], counts: &[u8; 240]) -> bool
+    requires { ⌜ n ≤ 240 ⌝ }
+    ensures { λ r. ⌜ r ≡ below n (λ k. eqb (bit (getD (now (free .entry)) k false) + getD (now (counts .entry)) k 0) 1) ⌝ }
+{
+    let end = wide(n);
+    let mut k = 0;
+    while k < end {
+        if !once(free[k], counts[k]) {
+            return false;
+        }
+        k += 1;
+    }
+    true
+}
