@@ -1,4 +1,5 @@
 // The record machine: the state, start, the soundness check, one step, and the count of the five places.
+mod count;
 mod entries;
 mod fresh;
 mod ranges;
