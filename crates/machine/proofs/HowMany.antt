@@ -1,5 +1,5 @@
 -- How many elements of a list pass a test, as a loop that goes up counts them.
-use mathlib.Core.Path.{_≡_, refl, sym, ap, _∙_}
+use mathlib.Core.Path.{_≡_, refl, ap, _∙_}
 use mathlib.Core.Bool.{Bool, true, false}
 use mathlib.Core.List.{List, [], _∷_}
 use Prim.Native.Nat.{ℕ, zero, suc, _+_, _≤_, _<_}
@@ -8,16 +8,17 @@ use native.Mathlib.Numerals.{add-one}
 use native.Mathlib.Omega.{arith}
 use lib.ListN.{length, getD, take, length-take}
 use lib.Seq.{take-all}
-use Rattle.machine.specs.Soundness.{bit}
+use lib.Dec.{eqb}
+use Rattle.machine.specs.Soundness.{bit, times}
 use Rattle.machine.specs.Count.{howMany}
 
-pub bit-most : (b : Bool) → bit b ≤ 1
+bit-most : (b : Bool) → bit b ≤ 1
 unfolding bit
 bit-most true = omega arith
 bit-most false = omega arith
 
 module _ {A : Type 0} (test : A → Bool) where
-  pub how-many-most : (xs : List A) → howMany test xs ≤ length xs
+  how-many-most : (xs : List A) → howMany test xs ≤ length xs
   unfolding howMany
   how-many-most [] = omega arith
   how-many-most (x ∷ xs) = omega (arith, bit-most (test x), how-many-most xs)
@@ -42,3 +43,12 @@ module _ {A : Type 0} (test : A → Bool) where
 
     pub count-all : length xs ≤ i → n ≡ howMany test xs
     count-all h = so-far ∙ ap (howMany test) (take-all i xs h)
+
+-- how often an object is read is how many elements are read as it
+times-as : {A : Type 0} (f : A → ℕ) (o : ℕ) (xs : List A) → times f o xs ≡ howMany (λ x. eqb (f x) o) xs
+unfolding times howMany
+times-as f o [] = refl
+times-as f o (x ∷ xs) = ap (λ (n : ℕ). bit (eqb (f x) o) + n) (times-as f o xs)
+
+pub times-most : {A : Type 0} (f : A → ℕ) (o : ℕ) (xs : List A) → times f o xs ≤ length xs
+times-most f o xs = rw times-as (how-many-most (λ x. eqb (f x) o) xs)

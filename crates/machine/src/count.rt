@@ -10,7 +10,7 @@ ghost use mathlib.Core.Path.{_≡_};
 ghost use lib.ListN.{length};
 ghost use Rattle.machine.specs.Phases.{carriedBy};
 ghost use Rattle.machine.specs.Soundness.{bit};
-ghost use Rattle.machine.specs.Count.{howMany, some, placesOf, countOf};
+ghost use Rattle.machine.specs.Count.{howMany, some, countOf};
 
 fn bit(yes: bool) -> u8
     ensures { λ r. ⌜ r ≡ bit yes ⌝ }

@@ -1,5 +1,4 @@
 -- `count` meets its contract: on a sound state each place's own count, and on another the refusal.
-use mathlib.Core.Path.{_≡_, sym, _∙_}
 use borrow.Author.Needs.{needs}
 use Rattle.machine.specs.Count.{placesOf, countOf}
 use Rattle.machine.proofs.Flags.{refused, passed}
