@@ -1,6 +1,6 @@
 -- Counting, over any element and any way to read its object: one more element, what the counts hold, and how much they can grow.
 use mathlib.Core.Path.{_≡_, refl, sym, ap, _∙_}
-use mathlib.Core.Bool.{Bool, true, false, cond}
+use mathlib.Core.Bool.{Bool, true, false}
 use mathlib.Core.List.{List, [], _∷_}
 use Prim.Native.Nat.{ℕ, zero, suc, _+_, _-_, _≤_, _<_}
 use native.Mathlib.Nat.{not-suc-le-zero, le-of-suc-le-suc, min-le-left}
@@ -12,6 +12,7 @@ use lib.Dec.{eqb, ltb, eqb·zero-suc, eqb·suc-zero, eqb·suc-suc}
 use borrow.Author.Tests.{eqb-true, eqb-false, ne-eqb, ltb-true, ltb-false}
 use Rattle.machine.specs.Soundness.{bit, times}
 use Rattle.machine.specs.Tally.{tally, tallied}
+use Rattle.machine.proofs.HowMany.{times-most}
 
 pub length-tally : (counts : List ℕ) (o : ℕ) → length (tally counts o) ≡ length counts
 unfolding tally
@@ -39,11 +40,6 @@ tally-at counts (suc p) k h =
     let e : suc p - 1 ≡ p = omega arith in
     rw (eqb·suc-zero p, e, eqb·suc-suc p k) (at-suc counts p k (eqb p k) refl h)
 
-bit-most : (b : Bool) → bit b ≤ 1
-unfolding bit
-bit-most true = omega arith
-bit-most false = omega arith
-
 module _ {A : Type 0} (f : A → ℕ) where
   pub length-tallied : (xs : List A) (counts : List ℕ) → length (tallied f xs counts) ≡ length counts
   unfolding tallied
@@ -68,14 +64,9 @@ module _ {A : Type 0} (f : A → ℕ) where
       let l : length (tally counts (f x)) ≡ length counts = length-tally counts (f x) in
       omega (arith, tallied-at xs (tally counts (f x)) k (omega arith), tally-at counts (f x) k h)
 
-  pub times-most : (o : ℕ) (xs : List A) → times f o xs ≤ length xs
-  unfolding times
-  times-most o [] = omega arith
-  times-most o (x ∷ xs) = omega (arith, bit-most (eqb (f x) o), times-most o xs)
-
   grown : (xs : List A) (counts : List ℕ) (b k : ℕ) → getD counts k 0 ≤ b → (within : Bool) → ltb k (length counts) ≡ within → getD (tallied f xs counts) k 0 ≤ b + length xs
   grown xs counts b k most true e =
-      omega (arith, tallied-at xs counts k (ltb-true k (length counts) e), times-most (suc k) xs)
+      omega (arith, tallied-at xs counts k (ltb-true k (length counts) e), times-most f (suc k) xs)
   grown xs counts b k most false e =
       let l : length (tallied f xs counts) ≤ k = omega (arith, length-tallied xs counts, ltb-false k (length counts) e) in
       omega (arith, List·getD-eq-default (tallied f xs counts) 0 l)

@@ -1,6 +1,6 @@
 -- Tests that a function makes one after the other, each by a call, leaving at the first `!test`: what the call ensures and the way that
 -- was taken decide the test, and the tests decide their conjunction.
-use mathlib.Core.Path.{_≡_, refl, sym, ap, _∙_}
+use mathlib.Core.Path.{_≡_, refl, sym, _∙_}
 use mathlib.Core.Bool.{Bool, true, false, not, _&&_}
 use borrow.Author.Tests.{not-true, not-false}
 

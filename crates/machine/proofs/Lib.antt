@@ -5,6 +5,7 @@ pub mod Bounds
 pub mod Counting
 pub mod Firsts
 pub mod Flags
+pub mod HowMany
 pub mod Marks
 pub mod PhaseBounds
 pub mod SizeLaws

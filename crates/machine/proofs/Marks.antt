@@ -1,7 +1,7 @@
 -- A list whose first elements are one value and whose others are another: how a loop that marks from the front goes on.
-use mathlib.Core.Path.{_≡_, refl, sym, ap, _∙_}
-use mathlib.Core.List.{List, [], _∷_, _++_}
-use Prim.Native.Nat.{ℕ, zero, suc, _+_, _-_, _<_}
+use mathlib.Core.Path.{_≡_, sym, ap, _∙_}
+use mathlib.Core.List.{_++_}
+use Prim.Native.Nat.{ℕ, suc, _+_, _-_, _<_}
 use native.Mathlib.Omega.{arith}
 use lib.ListN.{set, replicate, length-replicate, replicate-append-replicate}
 use lib.Seq.{set-at, append-snoc}

@@ -30,7 +30,15 @@ fn first_marked(n: u8) -> [bool; 240]
 
 // A state with these sizes and free marks, all else 0 and idle.
 fn resting(sizes: Sizes, free: [bool; 240]) -> State
-    ensures { λ r. ⌜ r ≡ record { sizes = sizes; links = replicate 16 0; threads = replicate 8 idleThread; slots = replicate 32 emptySlot; free = free; tags = replicate 240 0 } ⌝ }
+    ensures { λ r. ⌜ r ≡
+        record {
+          sizes = sizes;
+          links = replicate 16 0;
+          threads = replicate 8 idleThread;
+          slots = replicate 32 emptySlot;
+          free = free;
+          tags = replicate 240 0;
+        } ⌝ }
 {
     let thread = Thread {
         hand: 0,

@@ -1,5 +1,6 @@
 // The record machine: the state, start, the soundness check, one step, and the count of the five places.
 mod calls;
+mod count;
 mod entries;
 mod fresh;
 mod go_on;

@@ -6,10 +6,36 @@ use crate::entries::slots_good;
 use crate::entries::tags_good;
 use crate::entries::threads_good;
 use crate::ranges::sizes_good;
+use crate::ranges::wide;
 use crate::tally::counts_of;
-use crate::tally::each_once;
 ghost use mathlib.Core.Path.{_≡_};
-ghost use Rattle.machine.specs.Soundness.{sound};
+ghost use mathlib.Core.Bool.{false};
+ghost use Prim.Native.Nat.{_+_, _≤_};
+ghost use lib.ListN.{getD};
+ghost use lib.Dec.{eqb};
+ghost use Rattle.machine.specs.Soundness.{below, bit, sound};
+
+fn once(free: bool, count: u8) -> bool
+    ensures { λ r. ⌜ r ≡ eqb (bit free + count) 1 ⌝ }
+{
+    if free { count == 0 } else { count == 1 }
+}
+
+// "every object 1 to N is in exactly one place": its free mark and its count together are 1
+fn each_once(n: u8, free: &[bool; 240], counts: &[u8; 240]) -> bool
+    requires { ⌜ n ≤ 240 ⌝ }
+    ensures { λ r. ⌜ r ≡ below n (λ k. eqb (bit (getD (now (free .entry)) k false) + getD (now (counts .entry)) k 0) 1) ⌝ }
+{
+    let end = wide(n);
+    let mut k = 0;
+    while k < end {
+        if !once(free[k], counts[k]) {
+            return false;
+        }
+        k += 1;
+    }
+    true
+}
 
 impl State {
     // The ranges come first: sizes that are good bound the objects that are counted.

@@ -1,16 +1,12 @@
-// "every object 1 to N is in exactly one place": the places other than the free marks are counted for each object, then each object
-// is looked at once.
+// How often each object stands in a link, a hand, a handover or is carried: one pass over the places, a count per object.
 use crate::Slot;
 use crate::Thread;
 use crate::ranges::carried;
 use crate::ranges::wide;
 ghost use mathlib.Core.Path.{_≡_};
-ghost use mathlib.Core.Bool.{false};
-ghost use Prim.Native.Nat.{ℕ, _+_, _≤_, _<_};
+ghost use Prim.Native.Nat.{ℕ, _≤_, _<_};
 ghost use lib.ListN.{length, getD, replicate};
-ghost use lib.Dec.{eqb};
 ghost use Rattle.machine.specs.Phases.{carriedBy};
-ghost use Rattle.machine.specs.Soundness.{below, bit};
 ghost use Rattle.machine.specs.Tally.{tally, tallied};
 
 // 0 is no object, and a number above 240 has no count: the range tests refuse it.
@@ -76,7 +72,6 @@ fn count_carried(counts: &mut [u8; 240], threads: [Thread; 8])
     }
 }
 
-// How often each object is in a link, a hand, a handover or carried.
 pub fn counts_of(links: [u8; 16], threads: [Thread; 8], slots: [Slot; 32]) -> [u8; 240]
     ensures { λ r. ⌜ r ≡
         tallied (λ thread. carriedBy (thread .phase)) threads
@@ -90,25 +85,4 @@ pub fn counts_of(links: [u8; 16], threads: [Thread; 8], slots: [Slot; 32]) -> [u
     count_handovers(&mut counts, slots);
     count_carried(&mut counts, threads);
     counts
-}
-
-fn once(free: bool, count: u8) -> bool
-    ensures { λ r. ⌜ r ≡ eqb (bit free + count) 1 ⌝ }
-{
-    if free { count == 0 } else { count == 1 }
-}
-
-pub fn each_once(n: u8, free: &[bool; 240], counts: &[u8; 240]) -> bool
-    requires { ⌜ n ≤ 240 ⌝ }
-    ensures { λ r. ⌜ r ≡ below n (λ k. eqb (bit (getD (now (free .entry)) k false) + getD (now (counts .entry)) k 0) 1) ⌝ }
-{
-    let end = wide(n);
-    let mut k = 0;
-    while k < end {
-        if !once(free[k], counts[k]) {
-            return false;
-        }
-        k += 1;
-    }
-    true
 }

@@ -4,9 +4,7 @@ use mathlib.Core.Path.{_≡_, sym, ap}
 use mathlib.Core.Bool.{true, false, not}
 use native.Mathlib.Omega.{arith}
 use lib.ListN.{getD}
-use lib.Dec.{eqb}
 use borrow.Author.Count.{below-more}
-use borrow.Author.Tests.{eq-eqb, ne-eqb}
 use Rattle.machine.specs.Soundness.{freeGood}
 use Rattle.machine.proofs.Below.{beyond-all, beyond-fails}
 use borrow.Author.Needs.{needs}

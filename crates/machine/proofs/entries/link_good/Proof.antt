@@ -1,5 +1,4 @@
 -- `link_good` meets its contract: by whether the link is within the sizes.
-use mathlib.Core.Path.{sym, _∙_}
 use native.Mathlib.Omega.{arith}
 use borrow.Author.Tests.{lt-ltb, le-ltb}
 use Rattle.machine.specs.Soundness.{linkGood}

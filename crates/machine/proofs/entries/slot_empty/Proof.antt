@@ -1,8 +1,7 @@
 -- `slot_empty` meets its contract: the tests in order.
-use mathlib.Core.Path.{refl, sym, _∙_}
+use mathlib.Core.Path.{refl, sym}
 use borrow.Author.Tests.{eq-eqb, ne-eqb}
 use Rattle.machine.proofs.Flags.{and-so, and-not, and-then}
-use borrow.Author.Needs.{needs}
 use Rattle.machine.proofs.entries.slot_empty.Statement.{statement}
 use Rattle.machine.proofs.entries.slot_empty.Tie as tie
 

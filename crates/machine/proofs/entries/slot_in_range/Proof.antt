@@ -1,8 +1,7 @@
 -- `slot_in_range` meets its contract: the tests in order; with the mark on the hazard decides.
-use mathlib.Core.Path.{sym, _∙_}
+use mathlib.Core.Path.{sym}
 use borrow.Author.Tests.{le-leb, lt-leb}
 use Rattle.machine.proofs.Flags.{and-so, and-not, and-then}
-use borrow.Author.Needs.{needs}
 use Rattle.machine.proofs.entries.slot_in_range.Statement.{statement}
 use Rattle.machine.proofs.entries.slot_in_range.Tie as tie
 

@@ -1,4 +1,4 @@
-use borrow.Author.Needs.{needs}
+-- `first_marked` meets its contract. The loop's invariant: the marks passed are on, and the others are off.
 use native.Mathlib.Omega.{arith}
 use Prim.Native.Nat.{ℕ, _≤_, _-_}
 use mathlib.Core.Path.{_≡_, refl, ap, _∙_}
@@ -9,8 +9,6 @@ use Rattle.machine.specs.Fresh.{marked}
 use Rattle.machine.proofs.Marks.{mark-more}
 use Rattle.machine.proofs.fresh.first_marked.Statement.{statement}
 use Rattle.machine.proofs.fresh.first_marked.Tie as tie
-use Rattle.machine.proofs.fresh.first_marked.Reads as reads
-use Rattle.machine.proofs.fresh.first_marked.Lts as lts
 
 abbrev Inv-loop : tie.InvT-loop
 Inv-loop n marks₀ count i₀ marks i = (count ≡ n) × (i ≤ n) × (marks ≡ replicate i true ++ replicate (240 - i) false)
@@ -18,27 +16,21 @@ Inv-loop n marks₀ count i₀ marks i = (count ≡ n) × (i ≤ n) × (marks �
 abbrev μ-loop : tie.MeasureT-loop
 μ-loop n marks₀ count i₀ marks i = n - i
 
--- src/fresh.rt:39:5
 loop-holds : tie.Need-loop-holds Inv-loop μ-loop
 loop-holds c = (refl, omega arith, refl)
 
--- src/fresh.rt:40:9
 array-write-marks : tie.Need-array-write-marks Inv-loop μ-loop
 array-write-marks c = omega arith
 
--- src/fresh.rt:41:9
 add-i : tie.Need-add-i Inv-loop μ-loop
 add-i c = omega arith
 
--- src/fresh.rt:39:5
 loop-less : tie.Need-loop-less Inv-loop μ-loop
 loop-less c = omega arith
 
--- src/fresh.rt:39:5
 loop-again : tie.Need-loop-again Inv-loop μ-loop
 loop-again c = (refl, omega arith, ap (λ (l : List Bool). set l (c .before .loop .i) true) (c .before .loop .inv .2) ∙ mark-more 240 (c .before .loop .i) true false (omega arith))
 
--- src/fresh.rt:32:1
 returns : tie.Need-returns Inv-loop μ-loop
 unfolding marked
 returns c =

@@ -1,5 +1,5 @@
 -- `start` meets its contract: sizes in range give the fresh state, and others the blank one.
-use mathlib.Core.Path.{_≡_, sym, _∙_}
+use mathlib.Core.Path.{sym, _∙_}
 use borrow.Author.Needs.{needs}
 use Rattle.machine.specs.Fresh.{startOf, freshOf, blank}
 use Rattle.machine.proofs.SizeLaws.{objects-most}

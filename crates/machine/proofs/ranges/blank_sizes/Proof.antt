@@ -3,7 +3,6 @@ use mathlib.Core.Path.{refl, sym}
 use borrow.Author.Tests.{eq-eqb, ne-eqb}
 use Rattle.machine.specs.Sizes.{allZero}
 use Rattle.machine.proofs.Flags.{and-so, and-not, and-then}
-use borrow.Author.Needs.{needs}
 use Rattle.machine.proofs.ranges.blank_sizes.Statement.{statement}
 use Rattle.machine.proofs.ranges.blank_sizes.Tie as tie
 

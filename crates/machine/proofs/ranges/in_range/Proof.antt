@@ -1,5 +1,5 @@
 -- `in_range` meets its contract: the sizes are tested in the paper's order, and the first that is out of range decides.
-use mathlib.Core.Path.{sym, _∙_}
+use mathlib.Core.Path.{sym}
 use borrow.Author.Needs.{needs}
 use Rattle.machine.specs.Sizes.{inRange}
 use Rattle.machine.proofs.Flags.{refused, passed, and-so, and-not, and-then}

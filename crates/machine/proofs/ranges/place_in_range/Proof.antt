@@ -2,7 +2,6 @@
 use mathlib.Core.Path.{refl, sym, _∙_}
 use borrow.Author.Tests.{lt-ltb, le-ltb}
 use Rattle.machine.proofs.Flags.{and-not, and-then}
-use borrow.Author.Needs.{needs}
 use Rattle.machine.proofs.ranges.place_in_range.Statement.{statement}
 use Rattle.machine.proofs.ranges.place_in_range.Tie as tie
 

@@ -9,8 +9,8 @@ use Rattle.machine.specs.Soundness.{below, bit}
 use Rattle.machine.proofs.Flags.{refused, passed}
 use Rattle.machine.proofs.Below.{below-more, below-fails, below-fewer}
 use borrow.Author.Needs.{needs}
-use Rattle.machine.proofs.tally.each_once.Statement.{statement}
-use Rattle.machine.proofs.tally.each_once.Tie as tie
+use Rattle.machine.proofs.soundness.each_once.Statement.{statement}
+use Rattle.machine.proofs.soundness.each_once.Tie as tie
 
 abbrev Inv-loop : tie.InvT-loop
 Inv-loop n free counts end k₀ k = (end ≡ n) × (k ≤ n) × (below k (λ j. eqb (bit (getD free j false) + getD counts j 0) 1) ≡ true)

@@ -4,9 +4,8 @@ use native.Mathlib.Nat.{zero-add}
 use native.Mathlib.Numerals.{one-add}
 use lib.Dec.{eqb·suc-suc}
 use Rattle.machine.specs.Soundness.{bit}
-use borrow.Author.Needs.{needs}
-use Rattle.machine.proofs.tally.once.Statement.{statement}
-use Rattle.machine.proofs.tally.once.Tie as tie
+use Rattle.machine.proofs.soundness.once.Statement.{statement}
+use Rattle.machine.proofs.soundness.once.Tie as tie
 
 returns : tie.Need-returns
 unfolding bit
