@@ -1,0 +1,3 @@
+pub mod Appending
+pub mod Decimals
+pub mod Fields
