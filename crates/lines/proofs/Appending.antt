@@ -110,3 +110,15 @@ module _ {l x m : List ℕ} {p q : ℕ} (b : ℕ) (a : Appended l p x m q) (room
 
   pub length-then-one : length (set m q b) ≡ length l
   length-then-one = length-set m q b ∙ length-after a (omega (arith, before-one))
+
+-- two parts written one after the other, where there is room for both
+module _ (l : List ℕ) (p : ℕ) (x y : List ℕ) {all : List ℕ} (e : all ≡ x ++ y) (room : p + length all ≤ length l) where
+  pub first-room : p + length x ≤ length l
+  first-room = omega (arith, ap length e ∙ length-append x y)
+
+  pub second-room : {m : List ℕ} {q : ℕ} → Appended l p x m q → q + length y ≤ length m
+  second-room a =
+      rw (a .next, length-after a first-room) (omega (arith, ap length e ∙ length-append x y))
+
+  pub both : {m n : List ℕ} {q r : ℕ} → Appended l p x m q → Appended m q y n r → Appended l p all n r
+  both a b = rw e (then a first-room b)

@@ -8,42 +8,82 @@ use records::StepRecord;
 ghost use mathlib.Core.Path.{_≡_};
 ghost use Prim.Native.Nat.{_+_, _≤_};
 ghost use lib.ListN.{length};
-ghost use Rattle.machine.specs.Answers.{numbersOf};
+ghost use Rattle.machine.specs.Answers.{numbers, numbersOf};
 ghost use Rattle.lines.specs.Line.{bytesOf};
 ghost use Rattle.lines.specs.Run.{sizesLine, stepLine, endLine, stopLine};
 ghost use Rattle.lines.specs.Written.{Appended};
 
-fn wide(x: u8) -> u32
-    ensures { λ r. ⌜ r ≡ x ⌝ }
-{
-    x as u32
-}
-
 // An answer as numbers.
-pub struct Told {
+pub struct Numbers {
     pub number: u32,
     pub a: u32,
     pub b: u32,
 }
 
-pub fn told(answer: Answer) -> Told
-    ensures number { λ r. ⌜ r .number ≡ (numbersOf answer) .number ⌝ }
-    ensures a { λ r. ⌜ r .a ≡ (numbersOf answer) .a ⌝ }
-    ensures b { λ r. ⌜ r .b ≡ (numbersOf answer) .b ⌝ }
+pub fn told_as(answer: Answer) -> Numbers
+    ensures { λ r. ⌜ numbersOf answer ≡ numbers (r .number) (r .a) (r .b) ⌝ }
 {
     match answer {
-        Answer::Refused(number) => Told { number: wide(number), a: 0, b: 0 },
-        Answer::Taken(object) => Told { number: 1, a: wide(object), b: 0 },
-        Answer::Begun(object) => Told { number: 2, a: wide(object), b: 0 },
-        Answer::Working => Told { number: 3, a: 0, b: 0 },
-        Answer::Protected(object, tag) => Told { number: 4, a: wide(object), b: tag },
-        Answer::Nothing => Told { number: 5, a: 0, b: 0 },
-        Answer::Swapped(object) => Told { number: 6, a: wide(object), b: 0 },
-        Answer::Moved => Told { number: 7, a: 0, b: 0 },
-        Answer::Tag(tag) => Told { number: 8, a: tag, b: 0 },
-        Answer::Finished => Told { number: 9, a: 0, b: 0 },
-        Answer::Left(object, position) => Told { number: 10, a: wide(object), b: wide(position) },
-        Answer::Freed(object) => Told { number: 11, a: wide(object), b: 0 },
+        Answer::Refused(number) => Numbers {
+            number: number as u32,
+            a: 0,
+            b: 0,
+        },
+        Answer::Taken(object) => Numbers {
+            number: 1,
+            a: object as u32,
+            b: 0,
+        },
+        Answer::Begun(object) => Numbers {
+            number: 2,
+            a: object as u32,
+            b: 0,
+        },
+        Answer::Working => Numbers {
+            number: 3,
+            a: 0,
+            b: 0,
+        },
+        Answer::Protected(object, tag) => Numbers {
+            number: 4,
+            a: object as u32,
+            b: tag,
+        },
+        Answer::Nothing => Numbers {
+            number: 5,
+            a: 0,
+            b: 0,
+        },
+        Answer::Swapped(object) => Numbers {
+            number: 6,
+            a: object as u32,
+            b: 0,
+        },
+        Answer::Moved => Numbers {
+            number: 7,
+            a: 0,
+            b: 0,
+        },
+        Answer::Tag(tag) => Numbers {
+            number: 8,
+            a: tag,
+            b: 0,
+        },
+        Answer::Finished => Numbers {
+            number: 9,
+            a: 0,
+            b: 0,
+        },
+        Answer::Left(object, position) => Numbers {
+            number: 10,
+            a: object as u32,
+            b: position as u32,
+        },
+        Answer::Freed(object) => Numbers {
+            number: 11,
+            a: object as u32,
+            b: 0,
+        },
     }
 }
 
@@ -52,7 +92,12 @@ pub fn put_sizes(out: &mut [u8], at: usize, sizes: SizesRecord) -> usize
     requires { ⌜ at + length (bytesOf (sizesLine sizes)) ≤ length (now out) ⌝ }
     ensures { λ r. ⌜ Appended (now (out .entry)) at (bytesOf (sizesLine sizes)) (now (out .exit)) r ⌝ }
 {
-    let numbers = [wide(sizes.threads), wide(sizes.slots), wide(sizes.links), wide(sizes.objects)];
+    let numbers = [
+        sizes.threads as u32,
+        sizes.slots as u32,
+        sizes.links as u32,
+        sizes.objects as u32,
+    ];
     put_numbers(out, at, &numbers)
 }
 
@@ -61,8 +106,15 @@ pub fn put_step(out: &mut [u8], at: usize, number: u32, step: StepRecord, answer
     requires { ⌜ at + length (bytesOf (stepLine number step answer)) ≤ length (now out) ⌝ }
     ensures { λ r. ⌜ Appended (now (out .entry)) at (bytesOf (stepLine number step answer)) (now (out .exit)) r ⌝ }
 {
-    let told = told(answer);
-    let numbers = [number, wide(step.thread), wide(step.operation), told.number, told.a, told.b];
+    let told = told_as(answer);
+    let numbers = [
+        number,
+        step.thread as u32,
+        step.operation as u32,
+        told.number,
+        told.a,
+        told.b,
+    ];
     put_numbers(out, at, &numbers)
 }
 
@@ -74,11 +126,11 @@ pub fn put_end(out: &mut [u8], at: usize, steps: u32, places: Places) -> usize
     let next = put_word(out, at, b"end");
     let numbers = [
         steps,
-        wide(places.free),
-        wide(places.links),
-        wide(places.hands),
-        wide(places.handovers),
-        wide(places.carried),
+        places.free as u32,
+        places.links as u32,
+        places.hands as u32,
+        places.handovers as u32,
+        places.carried as u32,
     ];
     put_numbers(out, next, &numbers)
 }
@@ -89,6 +141,6 @@ pub fn put_stop(out: &mut [u8], at: usize, before: u32, number: u8) -> usize
     ensures { λ r. ⌜ Appended (now (out .entry)) at (bytesOf (stopLine before number)) (now (out .exit)) r ⌝ }
 {
     let next = put_word(out, at, b"stop");
-    let numbers = [before, wide(number)];
+    let numbers = [before, number as u32];
     put_numbers(out, next, &numbers)
 }

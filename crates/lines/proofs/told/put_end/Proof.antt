@@ -1,0 +1,87 @@
+-- `lines::told::put_end` meets its contract: the word, a space and then the numbers of `endLine`. Assumes nothing.
+use Prim.Native.Nat.{ℕ}
+use mathlib.Core.Path.{_≡_}
+use mathlib.Core.List.{List, [], _∷_, _++_, map}
+use Rattle.machine.specs.declared.Places.{Places}
+use lib.Dec.{lit<}
+use Rattle.lines.specs.Decimal.{decimal}
+use Rattle.lines.specs.Line.{joined, bytesOf, endWord}
+use Rattle.lines.specs.Run.{endLine}
+use Rattle.lines.proofs.Appending.{first-room, second-room, both}
+use Rattle.lines.proofs.Fields.{joined-more}
+use borrow.Author.Needs.{needs}
+use Rattle.lines.proofs.told.put_end.Statement.{statement}
+use Rattle.lines.proofs.told.put_end.Tie as tie
+use Rattle.lines.proofs.told.put_end.Reads as reads
+use Rattle.lines.proofs.told.put_end.Lts as lts
+use Rattle.lines.proofs.line.put_numbers.Reads as put-numbers-reads
+use Rattle.lines.proofs.line.put_word.Reads as put-word-reads
+
+-- the numbers after the word
+abbrev numbers-of : ℕ → Places → List ℕ
+numbers-of steps places =
+    steps ∷ places .free ∷ places .links ∷ places .hands ∷ places .handovers ∷ places .carried ∷ []
+
+split : (steps : ℕ) (places : Places) → bytesOf (endLine steps places) ≡ (endWord ++ 32 ∷ []) ++ joined (map decimal (numbers-of steps places))
+unfolding bytesOf endLine
+split steps places = joined-more endWord (map decimal (numbers-of steps places)) (lit< tt)
+
+-- src/told.rt:66:34
+slice-aggregate-put-word : tie.Need-slice-aggregate-put-word
+slice-aggregate-put-word c = search needs
+
+-- src/told.rt:66:9
+put-word-requires : tie.Need-put-word-requires
+put-word-requires c κs = first-room (c .before .before .before .args .out .now) _ (endWord ++ 32 ∷ []) (joined (map decimal (numbers-of (c .before .before .before .args .steps) (c .before .before .before .args .places)))) (split (c .before .before .before .args .steps) (c .before .before .before .args .places)) (c .before .before .before .pre)
+
+-- src/told.rt:69:9
+cast-t12 : tie.Need-cast-t12
+cast-t12 c = search needs
+
+-- src/told.rt:70:9
+cast-t13 : tie.Need-cast-t13
+cast-t13 c = search needs
+
+-- src/told.rt:71:9
+cast-t14 : tie.Need-cast-t14
+cast-t14 c = search needs
+
+-- src/told.rt:72:9
+cast-t15 : tie.Need-cast-t15
+cast-t15 c = search needs
+
+-- src/told.rt:73:9
+cast-t16 : tie.Need-cast-t16
+cast-t16 c = search needs
+
+-- src/told.rt:75:28
+slice-aggregate-put-numbers : tie.Need-slice-aggregate-put-numbers
+slice-aggregate-put-numbers c = search needs
+
+-- src/told.rt:75:5
+put-numbers-requires : tie.Need-put-numbers-requires
+put-numbers-requires c κs = (lit< tt, second-room _ _ (endWord ++ 32 ∷ []) (joined (map decimal (numbers-of (c .before .before .before .before .before .before .before .before .before .before .before .before .before .args .steps) (c .before .before .before .before .before .before .before .before .before .before .before .before .before .args .places)))) (split (c .before .before .before .before .before .before .before .before .before .before .before .before .before .args .steps) (c .before .before .before .before .before .before .before .before .before .before .before .before .before .args .places)) (c .before .before .before .before .before .before .before .before .before .before .before .before .before .pre) (c .before .before .before .before .before .before .before .before .before .put-word .ensures))
+
+-- src/told.rt:62:1
+same-length : tie.Need-same-length
+same-length c = search needs
+
+-- src/told.rt:62:1
+returns : tie.Need-returns
+returns c = both _ _ (endWord ++ 32 ∷ []) (joined (map decimal (numbers-of (c .before .before .before .before .before .before .before .before .before .before .before .before .before .before .before .before .args .steps) (c .before .before .before .before .before .before .before .before .before .before .before .before .before .before .before .before .args .places)))) (split (c .before .before .before .before .before .before .before .before .before .before .before .before .before .before .before .before .args .steps) (c .before .before .before .before .before .before .before .before .before .before .before .before .before .before .before .before .args .places)) (c .before .before .before .before .before .before .before .before .before .before .before .before .before .before .before .before .pre) (c .before .before .before .before .before .before .before .before .before .before .before .before .put-word .ensures) (c .before .before .put-numbers .ensures)
+
+pub put-end-spec : {M : Type 1} → statement M
+put-end-spec =
+    tie.close
+    (tie.spec
+    slice-aggregate-put-word
+    put-word-requires
+    cast-t12
+    cast-t13
+    cast-t14
+    cast-t15
+    cast-t16
+    slice-aggregate-put-numbers
+    put-numbers-requires
+    same-length
+    returns)
