@@ -43,6 +43,10 @@ module _ (l : List ℕ) (p : ℕ) (x : List ℕ) (room : p + length x ≤ length
 pub length-after : {l x m : List ℕ} {p r : ℕ} → Appended l p x m r → p + length x ≤ length l → length m ≡ length l
 length-after {l} {x} {m} {p} a room = ap length (a .buffer) ∙ length-written l p x room
 
+-- a bound on the place after the bytes
+pub up-to : {l x m : List ℕ} {p r : ℕ} (k : ℕ) → Appended l p x m r → length x ≤ k → r ≤ p + k
+up-to k a h = omega (arith, a .next)
+
 -- bytes and then bytes
 pub then : {l x m y n : List ℕ} {p q r : ℕ} → Appended l p x m q → p + length x ≤ length l → Appended m q y n r → Appended l p (x ++ y) n r
 then {l} {x} {m} {y} {n} {p} {q} {r} a room b =
@@ -74,10 +78,9 @@ pub rest-room : {l rest l₀ all : List ℕ} {p p₀ : ℕ} → Leads l p rest l
 rest-room g room = omega (arith, g .place, g .size)
 
 -- a part of what is to come is written
-pub leads-on : {l rest l₀ all x m : List ℕ} {p p₀ q : ℕ} (y : List ℕ) → Leads l p rest l₀ p₀ all → rest ≡ x ++ y → p₀ + length all ≤ length l₀ → Appended l p x m q → Leads m q y l₀ p₀ all
-leads-on {l} {rest} {l₀} {all} {x} {m} {p} {p₀} {q} y g e room a =
+pub leads-on : {l rest l₀ all x m : List ℕ} {p p₀ q : ℕ} (y : List ℕ) → Leads l p rest l₀ p₀ all → rest ≡ x ++ y → p + length x ≤ length l → Appended l p x m q → Leads m q y l₀ p₀ all
+leads-on {l} {rest} {l₀} {all} {x} {m} {p} {p₀} {q} y g e here a =
     let cut : length rest ≡ length x + length y = ap length e ∙ length-append x y in
-    let here : p + length x ≤ length l = part-room x y g e room in
     record {
       same = (rw (a .buffer, a .next) (written-then l p x here y)) ∙ (rw e at (g .same));
       place = omega (arith, cut, g .place, a .next);

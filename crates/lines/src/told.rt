@@ -15,7 +15,7 @@ ghost use Rattle.lines.specs.Written.{Appended};
 
 // An answer as numbers.
 pub struct Numbers {
-    pub number: u32,
+    pub number: u8,
     pub a: u32,
     pub b: u32,
 }
@@ -24,11 +24,7 @@ pub fn told_as(answer: Answer) -> Numbers
     ensures { λ r. ⌜ numbersOf answer ≡ numbers (r .number) (r .a) (r .b) ⌝ }
 {
     match answer {
-        Answer::Refused(number) => Numbers {
-            number: number as u32,
-            a: 0,
-            b: 0,
-        },
+        Answer::Refused(number) => Numbers { number, a: 0, b: 0 },
         Answer::Taken(object) => Numbers {
             number: 1,
             a: object as u32,
@@ -89,8 +85,8 @@ pub fn told_as(answer: Answer) -> Numbers
 
 // "First line: T H L N."
 pub fn put_sizes(out: &mut [u8], at: usize, sizes: SizesRecord) -> usize
-    requires { ⌜ at + length (bytesOf (sizesLine sizes)) ≤ length (now out) ⌝ }
-    ensures { λ r. ⌜ Appended (now (out .entry)) at (bytesOf (sizesLine sizes)) (now (out .exit)) r ⌝ }
+    requires { ⌜ (at + 40 ≤ length (now out)) ⌝ }
+    ensures { λ r. ⌜ (r ≤ at + 40) × Appended (now (out .entry)) at (bytesOf (sizesLine sizes)) (now (out .exit)) r ⌝ }
 {
     let numbers = [
         sizes.threads as u32,
@@ -103,15 +99,15 @@ pub fn put_sizes(out: &mut [u8], at: usize, sizes: SizesRecord) -> usize
 
 // "Per step: number from 1, thread, operation, answer or refusal number, a, b."
 pub fn put_step(out: &mut [u8], at: usize, number: u32, step: StepRecord, answer: Answer) -> usize
-    requires { ⌜ at + length (bytesOf (stepLine number step answer)) ≤ length (now out) ⌝ }
-    ensures { λ r. ⌜ Appended (now (out .entry)) at (bytesOf (stepLine number step answer)) (now (out .exit)) r ⌝ }
+    requires { ⌜ (number ≤ 6001) × (at + 40 ≤ length (now out)) ⌝ }
+    ensures { λ r. ⌜ (r ≤ at + 40) × Appended (now (out .entry)) at (bytesOf (stepLine number step answer)) (now (out .exit)) r ⌝ }
 {
     let told = told_as(answer);
     let numbers = [
         number,
         step.thread as u32,
         step.operation as u32,
-        told.number,
+        told.number as u32,
         told.a,
         told.b,
     ];
@@ -120,8 +116,8 @@ pub fn put_step(out: &mut [u8], at: usize, number: u32, step: StepRecord, answer
 
 // "Last line: `end`, steps, then objects free, in links, in hands, in handovers, carried."
 pub fn put_end(out: &mut [u8], at: usize, steps: u32, places: Places) -> usize
-    requires { ⌜ at + length (bytesOf (endLine steps places)) ≤ length (now out) ⌝ }
-    ensures { λ r. ⌜ Appended (now (out .entry)) at (bytesOf (endLine steps places)) (now (out .exit)) r ⌝ }
+    requires { ⌜ (steps ≤ 6001) × (at + 40 ≤ length (now out)) ⌝ }
+    ensures { λ r. ⌜ (r ≤ at + 40) × Appended (now (out .entry)) at (bytesOf (endLine steps places)) (now (out .exit)) r ⌝ }
 {
     let next = put_word(out, at, b"end");
     let numbers = [
@@ -137,8 +133,8 @@ pub fn put_end(out: &mut [u8], at: usize, steps: u32, places: Places) -> usize
 
 // "`stop`, the count of good records before, and the number"
 pub fn put_stop(out: &mut [u8], at: usize, before: u32, number: u8) -> usize
-    requires { ⌜ at + length (bytesOf (stopLine before number)) ≤ length (now out) ⌝ }
-    ensures { λ r. ⌜ Appended (now (out .entry)) at (bytesOf (stopLine before number)) (now (out .exit)) r ⌝ }
+    requires { ⌜ (before ≤ 6001) × (at + 40 ≤ length (now out)) ⌝ }
+    ensures { λ r. ⌜ (r ≤ at + 40) × Appended (now (out .entry)) at (bytesOf (stopLine before number)) (now (out .exit)) r ⌝ }
 {
     let next = put_word(out, at, b"stop");
     let numbers = [before, number as u32];

@@ -63,7 +63,7 @@ loop-again : tie.Need-loop-again Inv-loop μ-loop
 loop-again c = (
   omega arith,
   omega arith,
-  leads-on _ (c .before .before .before .before .before .before .loop .inv .2) (number-more _ (c .before .before .before .before .before .before .loop .i) (omega arith)) (c .before .before .before .before .before .before .before .before .before .pre .1) (c .before .before .put-field .ensures),
+  leads-on _ (c .before .before .before .before .before .before .loop .inv .2) (number-more _ (c .before .before .before .before .before .before .loop .i) (omega arith)) (put-field-requires (c .before .before .before) (c .before .before .put-field .lifetimes)) (c .before .before .put-field .ensures),
 )
 
 -- where the loop is left, the last number is still to come

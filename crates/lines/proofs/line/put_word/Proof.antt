@@ -56,7 +56,7 @@ loop-less c = omega arith
 loop-again : tie.Need-loop-again Inv-loop μ-loop
 loop-again c = (
   omega arith,
-  leads-on _ (c .before .before .loop .inv .1) (next-byte c) (c .before .before .before .pre) (one _ _ _ (slice-write-out c)),
+  leads-on _ (c .before .before .loop .inv .1) (next-byte c) (omega (arith, slice-write-out c)) (one _ _ _ (slice-write-out c)),
 )
 
 space-left :

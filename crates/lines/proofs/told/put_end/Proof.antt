@@ -1,14 +1,17 @@
 -- `lines::told::put_end` meets its contract: the word, a space and then the numbers of `endLine`. Assumes nothing.
-use Prim.Native.Nat.{ℕ}
+use Prim.Native.Nat.{ℕ, _+_, _≤_}
 use mathlib.Core.Path.{_≡_}
 use mathlib.Core.List.{List, [], _∷_, _++_, map}
 use Rattle.machine.specs.declared.Places.{Places}
+use native.Mathlib.Omega.{arith}
+use lib.ListN.{length}
 use lib.Dec.{lit<}
 use Rattle.lines.specs.Decimal.{decimal}
 use Rattle.lines.specs.Line.{joined, bytesOf, endWord}
 use Rattle.lines.specs.Run.{endLine}
-use Rattle.lines.proofs.Appending.{first-room, second-room, both}
+use Rattle.lines.proofs.Appending.{up-to, first-room, second-room, both}
 use Rattle.lines.proofs.Fields.{joined-more}
+use Rattle.lines.proofs.Short.{end-short}
 use borrow.Author.Needs.{needs}
 use Rattle.lines.proofs.told.put_end.Statement.{statement}
 use Rattle.lines.proofs.told.put_end.Tie as tie
@@ -26,13 +29,22 @@ split : (steps : ℕ) (places : Places) → bytesOf (endLine steps places) ≡ (
 unfolding bytesOf endLine
 split steps places = joined-more endWord (map decimal (numbers-of steps places)) (lit< tt)
 
+short : (c : tie.Start) → length (bytesOf (endLine (c .args .steps) (c .args .places))) ≤ 40
+short c =
+    end-short (c .args .steps) (c .args .places) (c .pre .0) (search needs) (search needs) (search needs) (search needs) (search needs)
+
+room :
+    (c : tie.Start) →
+    c .args .at + length (bytesOf (endLine (c .args .steps) (c .args .places))) ≤ length (c .args .out .now)
+room c = omega (arith, short c, c .pre .1)
+
 -- src/told.rt:66:34
 slice-aggregate-put-word : tie.Need-slice-aggregate-put-word
 slice-aggregate-put-word c = search needs
 
 -- src/told.rt:66:9
 put-word-requires : tie.Need-put-word-requires
-put-word-requires c κs = first-room (c .before .before .before .args .out .now) _ (endWord ++ 32 ∷ []) (joined (map decimal (numbers-of (c .before .before .before .args .steps) (c .before .before .before .args .places)))) (split (c .before .before .before .args .steps) (c .before .before .before .args .places)) (c .before .before .before .pre)
+put-word-requires c κs = first-room (c .before .before .before .args .out .now) _ (endWord ++ 32 ∷ []) (joined (map decimal (numbers-of (c .before .before .before .args .steps) (c .before .before .before .args .places)))) (split (c .before .before .before .args .steps) (c .before .before .before .args .places)) (room (c .before .before .before))
 
 -- src/told.rt:69:9
 cast-t12 : tie.Need-cast-t12
@@ -60,7 +72,7 @@ slice-aggregate-put-numbers c = search needs
 
 -- src/told.rt:75:5
 put-numbers-requires : tie.Need-put-numbers-requires
-put-numbers-requires c κs = (lit< tt, second-room _ _ (endWord ++ 32 ∷ []) (joined (map decimal (numbers-of (c .before .before .before .before .before .before .before .before .before .before .before .before .before .args .steps) (c .before .before .before .before .before .before .before .before .before .before .before .before .before .args .places)))) (split (c .before .before .before .before .before .before .before .before .before .before .before .before .before .args .steps) (c .before .before .before .before .before .before .before .before .before .before .before .before .before .args .places)) (c .before .before .before .before .before .before .before .before .before .before .before .before .before .pre) (c .before .before .before .before .before .before .before .before .before .put-word .ensures))
+put-numbers-requires c κs = (lit< tt, second-room _ _ (endWord ++ 32 ∷ []) (joined (map decimal (numbers-of (c .before .before .before .before .before .before .before .before .before .before .before .before .before .args .steps) (c .before .before .before .before .before .before .before .before .before .before .before .before .before .args .places)))) (split (c .before .before .before .before .before .before .before .before .before .before .before .before .before .args .steps) (c .before .before .before .before .before .before .before .before .before .before .before .before .before .args .places)) (room (c .before .before .before .before .before .before .before .before .before .before .before .before .before)) (c .before .before .before .before .before .before .before .before .before .put-word .ensures))
 
 -- src/told.rt:62:1
 same-length : tie.Need-same-length
@@ -68,7 +80,9 @@ same-length c = search needs
 
 -- src/told.rt:62:1
 returns : tie.Need-returns
-returns c = both _ _ (endWord ++ 32 ∷ []) (joined (map decimal (numbers-of (c .before .before .before .before .before .before .before .before .before .before .before .before .before .before .before .before .args .steps) (c .before .before .before .before .before .before .before .before .before .before .before .before .before .before .before .before .args .places)))) (split (c .before .before .before .before .before .before .before .before .before .before .before .before .before .before .before .before .args .steps) (c .before .before .before .before .before .before .before .before .before .before .before .before .before .before .before .before .args .places)) (c .before .before .before .before .before .before .before .before .before .before .before .before .before .before .before .before .pre) (c .before .before .before .before .before .before .before .before .before .before .before .before .put-word .ensures) (c .before .before .put-numbers .ensures)
+returns c =
+    let all = both _ _ (endWord ++ 32 ∷ []) (joined (map decimal (numbers-of (c .before .before .before .before .before .before .before .before .before .before .before .before .before .before .before .before .args .steps) (c .before .before .before .before .before .before .before .before .before .before .before .before .before .before .before .before .args .places)))) (split (c .before .before .before .before .before .before .before .before .before .before .before .before .before .before .before .before .args .steps) (c .before .before .before .before .before .before .before .before .before .before .before .before .before .before .before .before .args .places)) (room (c .before .before .before .before .before .before .before .before .before .before .before .before .before .before .before .before)) (c .before .before .before .before .before .before .before .before .before .before .before .before .put-word .ensures) (c .before .before .put-numbers .ensures) in
+    (up-to 40 all (short (c .before .before .before .before .before .before .before .before .before .before .before .before .before .before .before .before)), all)
 
 pub put-end-spec : {M : Type 1} → statement M
 put-end-spec =

@@ -1,13 +1,24 @@
 -- `lines::told::put_sizes` meets its contract: it hands over the numbers of `sizesLine`. Assumes nothing.
+use Prim.Native.Nat.{_+_, _≤_}
+use native.Mathlib.Omega.{arith}
+use lib.ListN.{length}
 use lib.Dec.{lit<}
 use Rattle.lines.specs.Line.{bytesOf}
 use Rattle.lines.specs.Run.{sizesLine}
+use Rattle.lines.proofs.Appending.{up-to}
+use Rattle.lines.proofs.Short.{sizes-short}
 use borrow.Author.Needs.{needs}
 use Rattle.lines.proofs.told.put_sizes.Statement.{statement}
 use Rattle.lines.proofs.told.put_sizes.Tie as tie
 use Rattle.lines.proofs.told.put_sizes.Reads as reads
 use Rattle.lines.proofs.told.put_sizes.Lts as lts
 use Rattle.lines.proofs.line.put_numbers.Reads as put-numbers-reads
+
+short : (c : tie.Start) → length (bytesOf (sizesLine (c .args .sizes))) ≤ 40
+short c = sizes-short (c .args .sizes) (search needs) (search needs) (search needs) (search needs)
+
+room : (c : tie.Start) → c .args .at + length (bytesOf (sizesLine (c .args .sizes))) ≤ length (c .args .out .now)
+room c = omega (arith, short c, c .pre)
 
 -- src/told.rt:47:20
 cast-t5 : tie.Need-cast-t5
@@ -32,7 +43,7 @@ slice-aggregate-put-numbers c = search needs
 -- src/told.rt:48:5
 put-numbers-requires : tie.Need-put-numbers-requires
 unfolding bytesOf sizesLine
-put-numbers-requires c κs = (lit< tt, c .before .before .before .before .before .before .before .pre)
+put-numbers-requires c κs = (lit< tt, room (c .before .before .before .before .before .before .before))
 
 -- src/told.rt:43:1
 same-length : tie.Need-same-length
@@ -41,7 +52,9 @@ same-length c = search needs
 -- src/told.rt:43:1
 returns : tie.Need-returns
 unfolding bytesOf sizesLine
-returns c = c .before .before .put-numbers .ensures
+returns c =
+    let all = c .before .before .put-numbers .ensures in
+    (up-to 40 all (short (c .before .before .before .before .before .before .before .before .before .before)), all)
 
 pub put-sizes-spec : {M : Type 1} → statement M
 put-sizes-spec =

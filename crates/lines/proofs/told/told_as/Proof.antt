@@ -12,81 +12,77 @@ use Rattle.lines.proofs.told.told_as.Lts as lts
 enum-known-answer : tie.Need-enum-known-answer
 enum-known-answer c = search needs
 
--- src/told.rt:27:54
-cast-t13 : tie.Need-cast-t13
-cast-t13 c = search needs
-
--- src/told.rt:28:23
+-- src/told.rt:32:23
 enum-known-answer-2 : tie.Need-enum-known-answer-2
 enum-known-answer-2 c = search needs
 
--- src/told.rt:28:58
-cast-t14 : tie.Need-cast-t14
-cast-t14 c = search needs
+-- src/told.rt:34:16
+cast-t13 : tie.Need-cast-t13
+cast-t13 c = search needs
 
--- src/told.rt:29:23
+-- src/told.rt:37:23
 enum-known-answer-3 : tie.Need-enum-known-answer-3
 enum-known-answer-3 c = search needs
 
--- src/told.rt:29:58
-cast-t15 : tie.Need-cast-t15
-cast-t15 c = search needs
+-- src/told.rt:39:16
+cast-t14 : tie.Need-cast-t14
+cast-t14 c = search needs
 
--- src/told.rt:30:28
+-- src/told.rt:42:28
 enum-told : tie.Need-enum-told
 enum-told c = search needs
 
--- src/told.rt:31:27
+-- src/told.rt:47:27
 enum-known-answer-4 : tie.Need-enum-known-answer-4
 enum-known-answer-4 c = search needs
 
--- src/told.rt:31:67
-cast-t16 : tie.Need-cast-t16
-cast-t16 c = search needs
+-- src/told.rt:49:16
+cast-t15 : tie.Need-cast-t15
+cast-t15 c = search needs
 
--- src/told.rt:32:28
+-- src/told.rt:52:28
 enum-told-2 : tie.Need-enum-told-2
 enum-told-2 c = search needs
 
--- src/told.rt:33:25
+-- src/told.rt:57:25
 enum-known-answer-5 : tie.Need-enum-known-answer-5
 enum-known-answer-5 c = search needs
 
--- src/told.rt:33:60
-cast-t17 : tie.Need-cast-t17
-cast-t17 c = search needs
+-- src/told.rt:59:16
+cast-t16 : tie.Need-cast-t16
+cast-t16 c = search needs
 
--- src/told.rt:34:26
+-- src/told.rt:62:26
 enum-told-3 : tie.Need-enum-told-3
 enum-told-3 c = search needs
 
--- src/told.rt:35:21
+-- src/told.rt:67:21
 enum-known-answer-6 : tie.Need-enum-known-answer-6
 enum-known-answer-6 c = search needs
 
--- src/told.rt:36:29
+-- src/told.rt:72:29
 enum-told-4 : tie.Need-enum-told-4
 enum-told-4 c = search needs
 
--- src/told.rt:37:22
+-- src/told.rt:77:22
 enum-known-answer-7 : tie.Need-enum-known-answer-7
 enum-known-answer-7 c = search needs
 
--- src/told.rt:37:68
+-- src/told.rt:79:16
+cast-t17 : tie.Need-cast-t17
+cast-t17 c = search needs
+
+-- src/told.rt:80:16
 cast-t18 : tie.Need-cast-t18
 cast-t18 c = search needs
 
--- src/told.rt:37:86
-cast-t19 : tie.Need-cast-t19
-cast-t19 c = search needs
-
--- src/told.rt:38:23
+-- src/told.rt:82:23
 enum-known-answer-8 : tie.Need-enum-known-answer-8
 enum-known-answer-8 c = search needs
 
--- src/told.rt:38:59
-cast-t20 : tie.Need-cast-t20
-cast-t20 c = search needs
+-- src/told.rt:84:16
+cast-t19 : tie.Need-cast-t19
+cast-t19 c = search needs
 
 -- src/told.rt:23:1
 returns : tie.Need-returns
@@ -153,25 +149,24 @@ told-as-spec =
     tie.close
     (tie.spec
     enum-known-answer
-    cast-t13
     enum-known-answer-2
-    cast-t14
+    cast-t13
     enum-known-answer-3
-    cast-t15
+    cast-t14
     enum-told
     enum-known-answer-4
-    cast-t16
+    cast-t15
     enum-told-2
     enum-known-answer-5
-    cast-t17
+    cast-t16
     enum-told-3
     enum-known-answer-6
     enum-told-4
     enum-known-answer-7
+    cast-t17
     cast-t18
-    cast-t19
     enum-known-answer-8
-    cast-t20
+    cast-t19
     returns
     returns-2
     returns-3
