@@ -2,3 +2,4 @@ pub mod Appending
 pub mod Decimals
 pub mod Fields
 pub mod Short
+pub mod Runs

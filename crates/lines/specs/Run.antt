@@ -1,6 +1,6 @@
 -- The run of a schedule over an input's bytes, as lines and as text. "The program reads standard input: one sizes record, then at most
 -- 6,000 steps. It takes each answer apart and prints it as numbers."
-use Prim.Native.Nat.{ℕ, zero, suc}
+use Prim.Native.Nat.{ℕ, zero, suc, _+_}
 use mathlib.Core.Bool.{cond}
 use mathlib.Core.List.{List, [], _∷_}
 use lib.Dec.{ltb}
@@ -54,10 +54,10 @@ stopLine before number = stop (before ∷ number ∷ [])
 -- The line with which the run ends at what was read after so many steps. "42: .. a sizes record comes later. 43: a 6,001st step. A
 -- record's own 40, 41 or 44 comes before both." The sizes record and the steps are the good records before.
 unfoldable pub lastLine : ℕ → State → Read → Line
-lastLine steps s (read.Sizes r) = stopLine (suc steps) 42
-lastLine steps s (read.Step r) = stopLine (suc steps) 43
+lastLine steps s (read.Sizes r) = stopLine (steps + 1) 42
+lastLine steps s (read.Step r) = stopLine (steps + 1) 43
 lastLine steps s read.End = endLine steps ((countOf s) .places)
-lastLine steps s (read.Refused number) = stopLine (suc steps) number
+lastLine steps s (read.Refused number) = stopLine (steps + 1) number
 
 -- The lines from what was read after so many steps; `more` has those that follow a step. "A refused step prints its line and the run goes
 -- on."
@@ -65,7 +65,7 @@ unfoldable pub linesAt : ℕ → State → (State → List Line) → Read → Li
 linesAt steps s more (read.Sizes r) = lastLine steps s (read.Sizes r) ∷ []
 linesAt steps s more (read.Step r) =
     let done = stepOf s (callOf r) in
-    let on = stepLine (suc steps) r (done .answer) ∷ more (done .state) in
+    let on = stepLine (steps + 1) r (done .answer) ∷ more (done .state) in
     cond (ltb steps 6000) on (lastLine steps s (read.Step r) ∷ [])
 linesAt steps s more read.End = lastLine steps s read.End ∷ []
 linesAt steps s more (read.Refused number) = lastLine steps s (read.Refused number) ∷ []
@@ -74,7 +74,7 @@ linesAt steps s more (read.Refused number) = lastLine steps s (read.Refused numb
 unfoldable pub linesFrom : ℕ → ℕ → State → List ℕ → List Line
 linesFrom zero steps s input = []
 linesFrom (suc records) steps s input =
-    linesAt steps s (λ next. linesFrom records (suc steps) next (restOf input)) (readOf input)
+    linesAt steps s (λ next. linesFrom records (steps + 1) next (restOf input)) (readOf input)
 
 -- "20 at the first record is `stop 0 20`, with no line before it." After the sizes at most 6,001 records are looked at.
 unfoldable pub linesStarted : SizesRecord → State → Verdict → List ℕ → List Line
