@@ -5,16 +5,21 @@ use mathlib.Core.List.{List, [], _∷_, _++_, append-nil}
 use native.Mathlib.Omega.{arith}
 use borrow.Author.Tests.{lt-ltb, le-ltb}
 use Rattle.machine.specs.declared.State.{State}
+use Rattle.machine.specs.declared.Started.{Started}
+use Rattle.machine.specs.declared.Verdict.{Verdict}
+use Rattle.machine.specs.declared.Verdict.the-variants as verdict
+use Rattle.machine.specs.Fresh.{startOf}
 use Rattle.machine.specs.Step.{stepOf}
+use Rattle.records.specs.declared.SizesRecord.{SizesRecord}
 use Rattle.records.specs.declared.StepRecord.{StepRecord}
 use Rattle.records.specs.declared.Read.{Read}
 use Rattle.records.specs.declared.Read.the-variants.{Sizes, Step, End, Refused}
 use Rattle.records.specs.Reading.{readOf}
 use Rattle.records.specs.Rest.{restOf}
 use Rattle.lines.specs.Line.{Line, bytesOf, text}
-use Rattle.lines.specs.Run.{callOf, stepLine, lastLine, linesAt, linesFrom}
+use Rattle.lines.specs.Run.{sizesOf, callOf, sizesLine, stepLine, stopLine, lastLine, linesAt, linesFrom, linesStarted, linesSized, linesFirst, linesOf, textOf}
 
-one-line : (line : Line) → text (line ∷ []) ≡ bytesOf line
+pub one-line : (line : Line) → text (line ∷ []) ≡ bytesOf line
 unfolding text
 one-line line = append-nil (bytesOf line)
 
@@ -61,3 +66,18 @@ module _ (steps : ℕ) (s : State) (input : List ℕ) where
   step-text r e h =
       let records : 6001 - steps ≡ suc (6001 - (steps + 1)) = omega arith in
       rw records (step-of (6001 - (steps + 1)) steps s input r e h)
+
+-- sizes that start, and sizes that do not
+module _ (r : SizesRecord) (rest : List ℕ) (started : Started) (e : started ≡ startOf (sizesOf r)) where
+  pub good-text : started .verdict ≡ verdict.Good → text (linesSized r rest) ≡ bytesOf (sizesLine r) ++ text (linesFrom 6001 0 (started .state) rest)
+  unfolding linesSized linesStarted text
+  good-text g = rw (← e, g)
+
+  pub refused-text : (number : ℕ) → started .verdict ≡ verdict.Refused number → text (linesSized r rest) ≡ bytesOf (stopLine 0 number)
+  unfolding linesSized linesStarted
+  refused-text number g = rw (← e, g) (one-line (stopLine 0 number))
+
+-- the text of an input by its first record
+pub first-text : (input : List ℕ) (found : Read) → readOf input ≡ found → textOf input ≡ text (linesFirst found (restOf input))
+unfolding textOf linesOf
+first-text input found e = rw e

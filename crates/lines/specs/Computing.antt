@@ -15,8 +15,8 @@ use Rattle.records.specs.Reading as reading
 use Rattle.records.specs.Rest.{restAfter, restOf}
 use Rattle.lines.specs.Decimal.{digits, decimal}
 use Rattle.lines.specs.Line.{joined, bytesOf, text}
-use Rattle.lines.specs.Run.{sizesLine, stepLine, endLine, stopLine, lastLine, linesAt, linesFrom, linesStarted, linesFirst, linesOf, textOf}
+use Rattle.lines.specs.Run.{sizesLine, stepLine, endLine, stopLine, lastLine, linesAt, linesFrom, linesStarted, linesSized, linesFirst, linesOf, textOf}
 
 unfoldable pub computing : Unit {0}
-unfolding inRange allZero isIdle carriedBy phaseInRange below bit times shaped sizesGood linkGood threadGood slotGood freeGood tagGood places sound marked freshOf blank startOf firstOn nextFree takeOf protectOf expected swapOf readOf retireOf clearOf publishOf confirmOf drainOf lookOf handOverOf goOnFrom goOnOf numbersOf firstOf usesSlot usesLink usesTag unusedNotZero withoutSlot protectedAt refusals refusalOf doneOf stepOf howMany placesOf countOf marks.marked numberOf reading.sizesAt reading.stepAt reading.zerosAtEnd reading.readOf restAfter restOf digits decimal joined bytesOf text sizesLine stepLine endLine stopLine lastLine linesAt linesFrom linesStarted linesFirst linesOf textOf
+unfolding inRange allZero isIdle carriedBy phaseInRange below bit times shaped sizesGood linkGood threadGood slotGood freeGood tagGood places sound marked freshOf blank startOf firstOn nextFree takeOf protectOf expected swapOf readOf retireOf clearOf publishOf confirmOf drainOf lookOf handOverOf goOnFrom goOnOf numbersOf firstOf usesSlot usesLink usesTag unusedNotZero withoutSlot protectedAt refusals refusalOf doneOf stepOf howMany placesOf countOf marks.marked numberOf reading.sizesAt reading.stepAt reading.zerosAtEnd reading.readOf restAfter restOf digits decimal joined bytesOf text sizesLine stepLine endLine stopLine lastLine linesAt linesFrom linesStarted linesSized linesFirst linesOf textOf
 computing = tt

@@ -3,5 +3,6 @@ pub mod Decimal
 pub mod Line
 pub mod Run
 pub mod Written
+pub mod Lent
 pub mod Computing
 pub mod Worked

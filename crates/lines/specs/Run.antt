@@ -81,11 +81,12 @@ unfoldable pub linesStarted : SizesRecord → State → Verdict → List ℕ →
 linesStarted r s verdict.Good rest = sizesLine r ∷ linesFrom 6001 0 s rest
 linesStarted r s (verdict.Refused number) rest = stopLine 0 number ∷ []
 
+unfoldable pub linesSized : SizesRecord → List ℕ → List Line
+linesSized r rest = let started = startOf (sizesOf r) in linesStarted r (started .state) (started .verdict) rest
+
 -- "42: the first record is missing or a step"
 unfoldable pub linesFirst : Read → List ℕ → List Line
-linesFirst (read.Sizes r) rest =
-    let started = startOf (sizesOf r) in
-    linesStarted r (started .state) (started .verdict) rest
+linesFirst (read.Sizes r) rest = linesSized r rest
 linesFirst (read.Step r) rest = stopLine 0 42 ∷ []
 linesFirst read.End rest = stopLine 0 42 ∷ []
 linesFirst (read.Refused number) rest = stopLine 0 number ∷ []
