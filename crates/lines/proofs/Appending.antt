@@ -47,6 +47,13 @@ length-after {l} {x} {m} {p} a room = ap length (a .buffer) ∙ length-written l
 pub up-to : {l x m : List ℕ} {p r : ℕ} (k : ℕ) → Appended l p x m r → length x ≤ k → r ≤ p + k
 up-to k a h = omega (arith, a .next)
 
+-- a buffer that kept its length had room for the bytes
+pub had-room : {l x m : List ℕ} {p r : ℕ} → Appended l p x m r → p ≤ length l → length m ≡ length l → r ≤ length m
+unfolding written
+had-room {l} {x} {m} {p} a h e =
+    let all = simp (length-append, length-take-le p l h, length-drop) at (ap length (a .buffer)) in
+    omega (arith, all, a .next)
+
 -- bytes and then bytes
 pub then : {l x m y n : List ℕ} {p q r : ℕ} → Appended l p x m q → p + length x ≤ length l → Appended m q y n r → Appended l p (x ++ y) n r
 then {l} {x} {m} {y} {n} {p} {q} {r} a room b =

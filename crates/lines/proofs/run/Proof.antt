@@ -1,11 +1,13 @@
 -- `lines::run` meets its contract: where there is room, what `put_text` writes at place 0. Assumes nothing.
-use Prim.Native.Nat.{_+_}
+use Prim.Native.Nat.{_+_, zero-le}
+use native.Mathlib.Omega.{arith}
 use mathlib.Core.Path.{_≡_, refl, _∙_}
 use mathlib.Core.List.{List, _++_}
 use native.Mathlib.Nat.{zero-add}
 use borrow.Author.Tests.{lt-ltb, le-ltb}
 use Rattle.lines.specs.Lent.{answerOf, bufferOf}
 use Rattle.lines.specs.Written.{written}
+use Rattle.lines.proofs.Appending.{had-room}
 use borrow.Author.Needs.{needs}
 use Rattle.lines.proofs.run.Statement.{statement}
 use Rattle.lines.proofs.run.Tie as tie
@@ -16,7 +18,7 @@ use Rattle.lines.proofs.first.put_text.Reads as put-text-reads
 -- src/lib.rt:19:9
 returns : tie.Need-returns
 unfolding answerOf bufferOf
-returns c = (simp (lt-ltb _ _ (c .if1 .taken)), simp (lt-ltb _ _ (c .if1 .taken)))
+returns c = (simp (lt-ltb _ _ (c .if1 .taken)), (omega arith, simp (lt-ltb _ _ (c .if1 .taken))))
 
 -- src/lib.rt:21:5
 put-text-requires : tie.Need-put-text-requires
@@ -31,7 +33,11 @@ returns-2 : tie.Need-returns-2
 unfolding answerOf bufferOf written
 returns-2 c = (
   simp (le-ltb _ _ (c .before .before .before .before .if1 .left)) (c .before .before .put-text .ensures .next ∙ zero-add _),
-  simp (le-ltb _ _ (c .before .before .before .before .if1 .left)) (c .before .before .put-text .ensures .buffer ∙ (rw zero-add)),
+  (
+    had-room (c .before .before .put-text .ensures) zero-le (c .before .before .put-text .kept .1 .0),
+    simp (le-ltb _ _ (c .before .before .before .before .if1 .left))
+        (c .before .before .put-text .ensures .buffer ∙ (rw zero-add)),
+  ),
 )
 
 pub run-spec : {M : Type 1} → statement M
