@@ -1,17 +1,13 @@
 -- Bytes written after bytes: the laws of `written` that every function of the crate uses. Assumes nothing.
-use Prim.Native.Nat.{ℕ, suc, _+_, _≤_, _<_}
-use mathlib.Core.Path.{_≡_, refl, sym, ap, _∙_}
-use mathlib.Core.List.{List, [], _∷_, _++_, append-assoc, append-nil}
-use native.Mathlib.Nat.{add-zero, add-assoc}
+use Prim.Native.Nat.{ℕ, _+_, _≤_, _<_}
+use mathlib.Core.Path.{_≡_, refl, ap, _∙_}
+use mathlib.Core.List.{List, [], _∷_, _++_, append-assoc}
+use native.Mathlib.Nat.{add-assoc}
 use native.Mathlib.Numerals.{add-one}
 use native.Mathlib.Omega.{arith}
-use lib.ListN.{length, take, drop, set, length-append, length-set, length-take, length-drop, take-append-drop}
+use lib.ListN.{length, take, drop, set, length-append, length-set, length-drop}
 use lib.Seq.{take-at, drop-append-add, drop-drop, set-split, length-take-le, append-snoc}
 use Rattle.lines.specs.Written.{written, Appended}
-
-pub nothing-written : (l : List ℕ) (p : ℕ) → written l p [] ≡ l
-unfolding written
-nothing-written l p = rw (add-zero, append-nil) (take-append-drop p l)
 
 -- a store is one byte written
 pub stored : (l : List ℕ) (p b : ℕ) → p < length l → set l p b ≡ written l p (b ∷ [])
@@ -101,11 +97,6 @@ more-room g e room = omega (arith, g .place, g .size, ap length e)
 -- all of what is to come is written
 pub leads-end : {l rest l₀ all m : List ℕ} {p p₀ q : ℕ} → Leads l p rest l₀ p₀ all → Appended l p rest m q → Appended l₀ p₀ all m q
 leads-end g a = record { next = a .next ∙ g .place; buffer = a .buffer ∙ g .same }
-
--- nothing is to come
-pub leads-done : {l l₀ all : List ℕ} {p p₀ : ℕ} → Leads l p [] l₀ p₀ all → Appended l₀ p₀ all l p
-leads-done {l} {p = p} g =
-    record { next = sym (add-zero p) ∙ g .place; buffer = sym (nothing-written l p) ∙ g .same }
 
 -- bytes, and then one byte stored after them
 module _ {l x m : List ℕ} {p q : ℕ} (b : ℕ) (a : Appended l p x m q) (room : p + length (x ++ b ∷ []) ≤ length l) where

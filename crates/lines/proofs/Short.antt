@@ -1,7 +1,6 @@
 -- No line of a run is longer than 40 bytes. Assumes nothing.
-use Prim.Native.Nat.{ℕ, suc, _+_, _^_, _≤_, _<_}
+use Prim.Native.Nat.{ℕ, _^_, _≤_, _<_}
 use mathlib.Core.Path.{_≡_}
-use mathlib.Core.List.{List, [], _∷_, _++_, map}
 use native.Mathlib.Omega.{arith}
 use lib.ListN.{length, length-append}
 use Rattle.machine.specs.declared.Answer.{Answer}
@@ -10,7 +9,7 @@ use Rattle.machine.specs.Answers.{numbers, numbersOf}
 use Rattle.records.specs.declared.SizesRecord.{SizesRecord}
 use Rattle.records.specs.declared.StepRecord.{StepRecord}
 use Rattle.lines.specs.Decimal.{decimal}
-use Rattle.lines.specs.Line.{joined, bytesOf, endWord, stopWord}
+use Rattle.lines.specs.Line.{joined, bytesOf}
 use Rattle.lines.specs.Run.{sizesLine, stepLine, endLine, stopLine}
 use Rattle.lines.proofs.Decimals.{decimal-short}
 

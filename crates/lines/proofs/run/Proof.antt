@@ -1,8 +1,7 @@
 -- `lines::run` meets its contract: where there is room, what `put_text` writes at place 0. Assumes nothing.
-use Prim.Native.Nat.{_+_, zero-le}
+use Prim.Native.Nat.{zero-le}
 use native.Mathlib.Omega.{arith}
-use mathlib.Core.Path.{_≡_, refl, _∙_}
-use mathlib.Core.List.{List, _++_}
+use mathlib.Core.Path.{_∙_}
 use native.Mathlib.Nat.{zero-add}
 use borrow.Author.Tests.{lt-ltb, le-ltb}
 use Rattle.lines.specs.Lent.{answerOf, bufferOf}
@@ -11,24 +10,17 @@ use Rattle.lines.proofs.Appending.{had-room}
 use borrow.Author.Needs.{needs}
 use Rattle.lines.proofs.run.Statement.{statement}
 use Rattle.lines.proofs.run.Tie as tie
-use Rattle.lines.proofs.run.Reads as reads
-use Rattle.lines.proofs.run.Lts as lts
-use Rattle.lines.proofs.first.put_text.Reads as put-text-reads
 
--- src/lib.rt:19:9
 returns : tie.Need-returns
 unfolding answerOf bufferOf
 returns c = (simp (lt-ltb _ _ (c .if1 .taken)), (omega arith, simp (lt-ltb _ _ (c .if1 .taken))))
 
--- src/lib.rt:21:5
 put-text-requires : tie.Need-put-text-requires
 put-text-requires c κs = search needs
 
--- src/lib.rt:14:1
 same-length : tie.Need-same-length
 same-length c = search needs
 
--- src/lib.rt:14:1
 returns-2 : tie.Need-returns-2
 unfolding answerOf bufferOf written
 returns-2 c = (

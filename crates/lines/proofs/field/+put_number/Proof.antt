@@ -1,13 +1,10 @@
 -- The proof of the cycle of calls {put_number}. The measure is the number. Its digits are those of a tenth of it, which the call of itself
 -- writes, and the last one. Assumes nothing.
-use mathlib.Core.Path.{_≡_, refl, sym, ap, _∙_}
-use mathlib.Core.List.{List, [], _∷_, _++_}
+use mathlib.Core.Path.{ap}
+use mathlib.Core.List.{[], _∷_, _++_}
 use native.Mathlib.Omega.{arith}
-use native.Mathlib.Nat.{div-lt-self}
-use borrow.Author.Needs.{needs}
 use lib.ListN.{length, length-set, length-append}
 use Rattle.lines.specs.Decimal.{digit, decimal}
-use Rattle.lines.specs.Written.{Appended}
 use Rattle.lines.proofs.Appending.{one, room-for-one, then-one, length-then-one}
 use Rattle.lines.proofs.Decimals.{decimal-few, decimal-many}
 use Prim.Native.Nat.{ℕ, _<_, _≤_, _+_, _/_, _%_}
@@ -30,7 +27,6 @@ abbrev put-number-below : ℕ → In 1 put-number-kinds.ps
 put-number-below t =
     and 1 put-number-kinds.ps (falls 1 put-number-kinds.ps _<_ μ-put-number t) put-number.Pre
 
--- src/field.rt:14:24
 put-number-cast-out :
     (t : ℕ) →
     put-number-lts.Need-cast-out
@@ -39,7 +35,6 @@ put-number-cast-out :
     put-number.Post
 put-number-cast-out t c = omega arith
 
--- src/field.rt:14:19
 put-number-add-out :
     (t : ℕ) →
     put-number-lts.Need-add-out
@@ -48,28 +43,24 @@ put-number-add-out :
     put-number.Post
 put-number-add-out t c = omega arith
 
--- src/field.rt:14:9
 put-number-slice-write-out : (t : ℕ) → put-number-lts.Need-slice-write-out (
   put-number-below t,
   put-number.Post,
 ) (put-number-at t) put-number.Post
 put-number-slice-write-out t c = omega (arith, ap length (decimal-few (c .before .before .args .n) (c .if1 .taken)))
 
--- src/field.rt:15:16
 put-number-add-result : (t : ℕ) → put-number-lts.Need-add-result (
   put-number-below t,
   put-number.Post,
 ) (put-number-at t) put-number.Post
 put-number-add-result t c = omega (arith, ap length (decimal-few (c .before .before .args .n) (c .if1 .taken)))
 
--- src/field.rt:15:9
 put-number-same-length : (t : ℕ) → put-number-lts.Need-same-length (
   put-number-below t,
   put-number.Post,
 ) (put-number-at t) put-number.Post
 put-number-same-length t c = simp length-set
 
--- src/field.rt:15:9
 put-number-returns :
     (t : ℕ) →
     put-number-lts.Need-returns
@@ -78,7 +69,6 @@ put-number-returns :
     put-number.Post
 put-number-returns t c = rw (decimal-few (c .before .before .args .n) (c .if1 .taken)) (one _ _ _ (put-number-slice-write-out t c))
 
--- src/field.rt:17:9
 put-number-put-number-requires : (t : ℕ) → put-number-lts.Need-put-number-requires (
   put-number-below t,
   put-number.Post,
@@ -95,42 +85,36 @@ put-number-room :
 put-number-room t c =
     rw (decimal-many (c .before .before .before .before .before .before .args .n) (c .before .before .before .before .if1 .left)) at (c .before .before .before .before .before .before .pre .1)
 
--- src/field.rt:18:22
 put-number-cast-out-2 : (t : ℕ) → put-number-lts.Need-cast-out-2 (
   put-number-below t,
   put-number.Post,
 ) (put-number-at t) put-number.Post
 put-number-cast-out-2 t c = omega arith
 
--- src/field.rt:18:17
 put-number-add-out-2 : (t : ℕ) → put-number-lts.Need-add-out-2 (
   put-number-below t,
   put-number.Post,
 ) (put-number-at t) put-number.Post
 put-number-add-out-2 t c = omega arith
 
--- src/field.rt:18:5
 put-number-slice-write-out-2 : (t : ℕ) → put-number-lts.Need-slice-write-out-2 (
   put-number-below t,
   put-number.Post,
 ) (put-number-at t) put-number.Post
 put-number-slice-write-out-2 t c = room-for-one _ (c .before .before .put-number .ensures) (put-number-room t c)
 
--- src/field.rt:19:5
 put-number-add-result-2 : (t : ℕ) → put-number-lts.Need-add-result-2 (
   put-number-below t,
   put-number.Post,
 ) (put-number-at t) put-number.Post
 put-number-add-result-2 t c = omega (arith, put-number-slice-write-out-2 t c, c .before .before .put-number .kept .0)
 
--- src/field.rt:9:1
 put-number-same-length-2 : (t : ℕ) → put-number-lts.Need-same-length-2 (
   put-number-below t,
   put-number.Post,
 ) (put-number-at t) put-number.Post
 put-number-same-length-2 t c = length-then-one _ (c .before .before .put-number .ensures) (put-number-room t c)
 
--- src/field.rt:9:1
 put-number-returns-2 : (t : ℕ) → put-number-lts.Need-returns-2 (
   put-number-below t,
   put-number.Post,

@@ -1,57 +1,40 @@
 -- `lines::first::put_started` meets its contract: the sizes' line and the steps' text after it, or the line that stops the run. Assumes nothing.
-use Prim.Native.Nat.{_+_}
 use native.Mathlib.Omega.{arith}
 use Rattle.lines.proofs.Appending.{then}
 use Rattle.lines.proofs.Runs.{good-text, refused-text}
 use borrow.Author.Needs.{needs}
 use Rattle.lines.proofs.first.put_started.Statement.{statement}
 use Rattle.lines.proofs.first.put_started.Tie as tie
-use Rattle.lines.proofs.first.put_started.Reads as reads
-use Rattle.lines.proofs.first.put_started.Lts as lts
-use Rattle.lines.proofs.steps.put_steps.Reads as put-steps-reads
-use Rattle.lines.proofs.told.put_sizes.Reads as put-sizes-reads
-use Rattle.lines.proofs.told.put_stop.Reads as put-stop-reads
-use Rattle.machine.proofs.start.Reads as start-reads
 
--- src/first.rt:23:9
 start-requires : tie.Need-start-requires
 start-requires c κs = search needs
 
--- src/first.rt:28:34
 enum-told : tie.Need-enum-told
 enum-told c = search needs
 
--- src/first.rt:28:17
 put-sizes-requires : tie.Need-put-sizes-requires
 put-sizes-requires c κs = search needs
 
--- src/first.rt:29:13
 put-steps-requires : tie.Need-put-steps-requires
 put-steps-requires c κs = search needs
 
--- src/first.rt:31:26
 enum-known-verdict : tie.Need-enum-known-verdict
 enum-known-verdict c = search needs
 
--- src/first.rt:31:37
 put-stop-requires : tie.Need-put-stop-requires
 put-stop-requires c κs = search needs
 
--- src/first.rt:19:1
 same-length : tie.Need-same-length
 same-length c = search needs
 
--- src/first.rt:19:1
 returns : tie.Need-returns
 returns c =
     rw (good-text _ _ _ (c .before .before .before .before .before .before .before .before .before .before .before .start .ensures) (c .before .before .before .before .before .before .before .before .enum-told .given .1))
     (then (c .before .before .before .before .before .before .put-sizes .ensures .1) (omega (arith, c .before .before .before .before .before .before .put-sizes .ensures .0, c .before .before .before .before .before .before .put-sizes .ensures .1 .next, c .before .before .before .before .before .before .before .before .before .before .before .before .before .before .pre)) (c .before .before .put-steps .ensures))
 
--- src/first.rt:19:1
 same-length-2 : tie.Need-same-length-2
 same-length-2 c = search needs
 
--- src/first.rt:19:1
 returns-2 : tie.Need-returns-2
 returns-2 c =
     rw (refused-text _ _ _ (c .before .before .before .before .before .before .before .before .start .ensures) _ (c .before .before .before .before .before .verdict .given .1))

@@ -1,20 +1,16 @@
 -- `lines::line::put_numbers` meets its contract. The invariant: the fields from the i-th number on are still to come. Assumes nothing.
-use Prim.Native.Nat.{ℕ, suc, _+_, _-_, _≤_, _<_}
-use mathlib.Core.Path.{_≡_, refl, sym, ap, _∙_}
-use mathlib.Core.List.{List, [], _∷_, _++_, map}
+use Prim.Native.Nat.{_+_, _-_, _≤_}
+use mathlib.Core.Path.{_≡_, _∙_}
+use mathlib.Core.List.{[], _∷_, _++_, map}
 use native.Mathlib.Omega.{arith}
 use borrow.Author.Needs.{needs}
 use lib.ListN.{length, getD, drop}
 use Rattle.lines.specs.Decimal.{decimal}
 use Rattle.lines.specs.Line.{joined}
-use Rattle.lines.specs.Written.{Appended}
 use Rattle.lines.proofs.Appending.{Leads, leads-start, leads-on, leads-end, part-room, rest-room}
 use Rattle.lines.proofs.Fields.{number-more, number-last}
 use Rattle.lines.proofs.line.put_numbers.Statement.{statement}
 use Rattle.lines.proofs.line.put_numbers.Tie as tie
-use Rattle.lines.proofs.line.put_numbers.Reads as reads
-use Rattle.lines.proofs.line.put_numbers.Lts as lts
-use Rattle.lines.proofs.field.put_field.Reads as put-field-reads
 
 abbrev Inv-loop : tie.InvT-loop
 Inv-loop out₀ at numbers last next₀ i₀ out next i =
@@ -25,23 +21,18 @@ Inv-loop out₀ at numbers last next₀ i₀ out next i =
 abbrev μ-loop : tie.MeasureT-loop
 μ-loop out₀ at numbers last next₀ i₀ out next i = last - i
 
--- src/line.rt:15:16
 sub-last : tie.Need-sub-last Inv-loop μ-loop
 sub-last c = omega arith
 
--- src/line.rt:18:5
 loop-holds : tie.Need-loop-holds Inv-loop μ-loop
 loop-holds c = (omega arith, omega arith, leads-start _ _ _)
 
--- src/line.rt:19:37
 mul-put-field : tie.Need-mul-put-field Inv-loop μ-loop
 mul-put-field c = search needs
 
--- src/line.rt:19:37
 shared-slice-read-put-field : tie.Need-shared-slice-read-put-field Inv-loop μ-loop
 shared-slice-read-put-field c = omega arith
 
--- src/line.rt:19:9
 put-field-requires : tie.Need-put-field-requires Inv-loop μ-loop
 put-field-requires c κs =
     let ns = c .before .before .before .before .before .before .args .numbers .now in
@@ -50,15 +41,12 @@ put-field-requires c κs =
     (number-more ns i (omega arith))
     (c .before .before .before .before .before .before .pre .1)
 
--- src/line.rt:20:9
 add-i : tie.Need-add-i Inv-loop μ-loop
 add-i c = omega arith
 
--- src/line.rt:18:5
 loop-less : tie.Need-loop-less Inv-loop μ-loop
 loop-less c = omega arith
 
--- src/line.rt:18:5
 loop-again : tie.Need-loop-again Inv-loop μ-loop
 loop-again c = (
   omega arith,
@@ -76,24 +64,19 @@ last-number c =
     let e : c .before .loop .i ≡ length ns - 1 = omega arith in
     rw e (number-last ns (length ns - 1) (omega arith))
 
--- src/line.rt:22:26
 mul-put-field-2 : tie.Need-mul-put-field-2 Inv-loop μ-loop
 mul-put-field-2 c = search needs
 
--- src/line.rt:22:26
 shared-slice-read-put-field-2 : tie.Need-shared-slice-read-put-field-2 Inv-loop μ-loop
 shared-slice-read-put-field-2 c = omega arith
 
--- src/line.rt:22:5
 put-field-requires-2 : tie.Need-put-field-requires-2 Inv-loop μ-loop
 put-field-requires-2 c κs =
     rest-room (rw (last-number (c .before .before)) at (c .before .before .before .loop .inv .2)) (c .before .before .before .before .before .before .pre .1)
 
--- src/line.rt:11:1
 same-length : tie.Need-same-length Inv-loop μ-loop
 same-length c = c .before .before .put-field2 .kept .0 ∙ c .before .before .before .before .before .before .loop .inv .2 .size
 
--- src/line.rt:11:1
 returns : tie.Need-returns Inv-loop μ-loop
 returns c = leads-end (rw (last-number (c .before .before .before .before .before)) at (c .before .before .before .before .before .before .loop .inv .2)) (c .before .before .put-field2 .ensures)
 

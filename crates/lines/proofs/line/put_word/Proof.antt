@@ -1,17 +1,14 @@
 -- `lines::line::put_word` meets its contract. The invariant: what is left of the word, and the space, are still to come. Assumes nothing.
-use Prim.Native.Nat.{ℕ, suc, _+_, _-_, _≤_, _<_}
-use mathlib.Core.Path.{_≡_, refl, sym, ap, _∙_}
-use mathlib.Core.List.{List, [], _∷_, _++_}
+use Prim.Native.Nat.{_+_, _-_, _≤_}
+use mathlib.Core.Path.{_≡_, _∙_}
+use mathlib.Core.List.{[], _∷_, _++_}
 use native.Mathlib.Omega.{arith}
 use native.Mathlib.Numerals.{add-one}
-use lib.ListN.{length, getD, drop, length-set, length-append, drop-of-length-le}
+use lib.ListN.{length, getD, drop, length-set, drop-of-length-le}
 use lib.Seq.{drop-cons}
-use Rattle.lines.specs.Written.{Appended}
 use Rattle.lines.proofs.Appending.{Leads, leads-start, leads-on, leads-end, more-room, one}
 use Rattle.lines.proofs.line.put_word.Statement.{statement}
 use Rattle.lines.proofs.line.put_word.Tie as tie
-use Rattle.lines.proofs.line.put_word.Reads as reads
-use Rattle.lines.proofs.line.put_word.Lts as lts
 
 abbrev Inv-loop : tie.InvT-loop
 Inv-loop out₀ at word next₀ i₀ out next i =
@@ -20,11 +17,9 @@ Inv-loop out₀ at word next₀ i₀ out next i =
 abbrev μ-loop : tie.MeasureT-loop
 μ-loop out₀ at word next₀ i₀ out next i = length word - i
 
--- src/line.rt:32:5
 loop-holds : tie.Need-loop-holds Inv-loop μ-loop
 loop-holds c = (omega arith, leads-start _ _ _)
 
--- src/line.rt:33:21
 shared-slice-read-out : tie.Need-shared-slice-read-out Inv-loop μ-loop
 shared-slice-read-out c = omega arith
 
@@ -36,23 +31,18 @@ next-byte :
     (drop (c .before .before .loop .i + 1) (c .before .before .before .args .word .now) ++ 32 ∷ [])
 next-byte c = rw (add-one, drop-cons (c .before .before .before .args .word .now) (c .before .before .loop .i) 0 (c .before .loop-test .taken))
 
--- src/line.rt:33:9
 slice-write-out : tie.Need-slice-write-out Inv-loop μ-loop
 slice-write-out c = more-room (c .before .before .loop .inv .1) (next-byte c) (c .before .before .before .pre)
 
--- src/line.rt:34:9
 add-next : tie.Need-add-next Inv-loop μ-loop
 add-next c = omega (arith, slice-write-out c, c .before .before .loop .inv .1 .size)
 
--- src/line.rt:35:9
 add-i : tie.Need-add-i Inv-loop μ-loop
 add-i c = omega arith
 
--- src/line.rt:32:5
 loop-less : tie.Need-loop-less Inv-loop μ-loop
 loop-less c = omega arith
 
--- src/line.rt:32:5
 loop-again : tie.Need-loop-again Inv-loop μ-loop
 loop-again c = (
   omega arith,
@@ -64,19 +54,15 @@ space-left :
     drop (c .before .loop .i) (c .before .before .args .word .now) ++ 32 ∷ [] ≡ 32 ∷ []
 space-left c = rw (drop-of-length-le (c .before .before .args .word .now) {i = c .before .loop .i} (c .loop-test .left))
 
--- src/line.rt:37:5
 slice-write-out-2 : tie.Need-slice-write-out-2 Inv-loop μ-loop
 slice-write-out-2 c = more-room (c .before .loop .inv .1) (space-left c) (c .before .before .pre)
 
--- src/line.rt:38:5
 add-result : tie.Need-add-result Inv-loop μ-loop
 add-result c = omega (arith, slice-write-out-2 c, c .before .loop .inv .1 .size)
 
--- src/line.rt:26:1
 same-length : tie.Need-same-length Inv-loop μ-loop
 same-length c = length-set (c .before .loop .out) _ _ ∙ c .before .loop .inv .1 .size
 
--- src/line.rt:26:1
 returns : tie.Need-returns Inv-loop μ-loop
 returns c = leads-end (rw (space-left c) at (c .before .loop .inv .1)) (one _ _ _ (slice-write-out-2 c))
 

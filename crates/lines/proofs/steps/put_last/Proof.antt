@@ -3,92 +3,67 @@ use Rattle.lines.specs.Run.{lastLine}
 use borrow.Author.Needs.{needs}
 use Rattle.lines.proofs.steps.put_last.Statement.{statement}
 use Rattle.lines.proofs.steps.put_last.Tie as tie
-use Rattle.lines.proofs.steps.put_last.Reads as reads
-use Rattle.lines.proofs.steps.put_last.Lts as lts
-use Rattle.lines.proofs.told.put_end.Reads as put-end-reads
-use Rattle.lines.proofs.told.put_stop.Reads as put-stop-reads
-use Rattle.machine.proofs.State.count.Reads as count-reads
 
--- src/steps.rt:37:36
 enum-told : tie.Need-enum-told
 enum-told c = search needs
 
--- src/steps.rt:37:45
 add-put-stop : tie.Need-add-put-stop
 add-put-stop c = search needs
 
--- src/steps.rt:37:27
 put-stop-requires : tie.Need-put-stop-requires
 put-stop-requires c κs = search needs
 
--- src/steps.rt:38:35
 enum-told-2 : tie.Need-enum-told-2
 enum-told-2 c = search needs
 
--- src/steps.rt:38:44
 add-put-stop-2 : tie.Need-add-put-stop-2
 add-put-stop-2 c = search needs
 
--- src/steps.rt:38:26
 put-stop-requires-2 : tie.Need-put-stop-requires-2
 put-stop-requires-2 c κs = search needs
 
--- src/steps.rt:40:17
 enum-told-3 : tie.Need-enum-told-3
 enum-told-3 c = search needs
 
--- src/steps.rt:40:17
 count-requires : tie.Need-count-requires
 count-requires c κs = search needs
 
--- src/steps.rt:42:13
 put-end-requires : tie.Need-put-end-requires
 put-end-requires c κs = search needs
 
--- src/steps.rt:44:23
 enum-known-found : tie.Need-enum-known-found
 enum-known-found c = search needs
 
--- src/steps.rt:44:52
 add-put-stop-3 : tie.Need-add-put-stop-3
 add-put-stop-3 c = search needs
 
--- src/steps.rt:44:34
 put-stop-requires-3 : tie.Need-put-stop-requires-3
 put-stop-requires-3 c κs = search needs
 
--- src/steps.rt:32:1
 same-length : tie.Need-same-length
 same-length c = search needs
 
--- src/steps.rt:32:1
 returns : tie.Need-returns
 unfolding lastLine
 returns c = rw (c .before .before .before .before .enum-told .given .1) (c .before .before .put-stop .ensures .1)
 
--- src/steps.rt:32:1
 same-length-2 : tie.Need-same-length-2
 same-length-2 c = search needs
 
--- src/steps.rt:32:1
 returns-2 : tie.Need-returns-2
 unfolding lastLine
 returns-2 c = rw (c .before .before .before .before .enum-told2 .given .1) (c .before .before .put-stop2 .ensures .1)
 
--- src/steps.rt:32:1
 same-length-3 : tie.Need-same-length-3
 same-length-3 c = search needs
 
--- src/steps.rt:32:1
 returns-3 : tie.Need-returns-3
 unfolding lastLine
 returns-3 c = rw (c .before .before .before .before .before .before .enum-told3 .given .1, ← c .before .before .before .before .before .count .ensures) (c .before .before .put-end .ensures .1)
 
--- src/steps.rt:32:1
 same-length-4 : tie.Need-same-length-4
 same-length-4 c = search needs
 
--- src/steps.rt:32:1
 returns-4 : tie.Need-returns-4
 unfolding lastLine
 returns-4 c = rw (c .before .before .before .before .before .found .given .1) (c .before .before .put-stop3 .ensures .1)

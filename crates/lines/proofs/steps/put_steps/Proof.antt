@@ -1,11 +1,10 @@
 -- `lines::steps::put_steps` meets its contract. The invariant: the text from the present state and the bytes that are left is still to come;
 -- each step so far took at most 40 bytes. Assumes nothing.
-use Prim.Native.Nat.{ℕ, suc, _+_, _-_, _*_, _≤_, _<_}
-use mathlib.Core.Path.{_≡_, refl, sym, ap, _∙_}
-use mathlib.Core.List.{List, [], _∷_, _++_}
+use Prim.Native.Nat.{ℕ, _+_, _-_, _*_, _≤_}
+use mathlib.Core.Path.{_≡_, sym, _∙_}
+use mathlib.Core.List.{_++_}
 use native.Mathlib.Omega.{arith}
 use borrow.Author.Needs.{needs}
-use lib.ListN.{length}
 use mathlib.Core.Logic.{_⊎_, ⊎-elim}
 use denote.Enum.Declared.{tagOf}
 use Rattle.records.proofs.Read.{the-type}
@@ -13,19 +12,10 @@ use Rattle.records.specs.declared.Read.{Read}
 use Rattle.records.specs.declared.Read.the-variants.{Sizes, Step, End, Refused}
 use Rattle.lines.specs.Line.{bytesOf, text}
 use Rattle.lines.specs.Run.{stepLine, linesFrom}
-use Rattle.lines.specs.Written.{Appended}
 use Rattle.lines.proofs.Appending.{Leads, leads-start, leads-on, leads-end}
 use Rattle.lines.proofs.Runs.{Ends, last-text, step-text}
 use Rattle.lines.proofs.steps.put_steps.Statement.{statement}
 use Rattle.lines.proofs.steps.put_steps.Tie as tie
-use Rattle.lines.proofs.steps.put_steps.Reads as reads
-use Rattle.lines.proofs.steps.put_steps.Lts as lts
-use Rattle.lines.proofs.steps.call_of.Reads as call-of-reads
-use Rattle.lines.proofs.steps.put_last.Reads as put-last-reads
-use Rattle.lines.proofs.told.put_step.Reads as put-step-reads
-use Rattle.machine.proofs.State.step.Reads as step-reads
-use Rattle.records.proofs.reading.read.Reads as read-reads
-use Rattle.records.proofs.reading.rest.Reads as rest-reads
 
 -- anything but a step ends the run: 0, 2 and 3 are the other cases of what is read
 not-step : (steps : ℕ) (found : Read) → (tagOf the-type found ≡ 0) ⊎ ((tagOf the-type found ≡ 2) ⊎ (tagOf the-type found ≡ 3)) → Ends steps found
@@ -43,27 +33,21 @@ Inv-loop input out₀ at left₀ next₀ now-at₀ steps₀ out left next now-at
 abbrev μ-loop : tie.MeasureT-loop
 μ-loop input out₀ at left₀ next₀ now-at₀ steps₀ out left next now-at steps = 6001 - steps
 
--- src/steps.rt:57:5
 loop-holds : tie.Need-loop-holds Inv-loop μ-loop
 loop-holds c = (omega arith, omega arith, leads-start _ _ _)
 
--- src/steps.rt:58:13
 read-requires : tie.Need-read-requires Inv-loop μ-loop
 read-requires c κs = tt
 
--- src/steps.rt:59:24
 enum-known-found : tie.Need-enum-known-found Inv-loop μ-loop
 enum-known-found c = search needs
 
--- src/steps.rt:60:13
 put-last-requires : tie.Need-put-last-requires Inv-loop μ-loop
 put-last-requires c κs = (omega arith, omega (arith, c .before .before .before .loop .inv .2 .size, c .before .before .before .before .before .before .pre .1))
 
--- src/steps.rt:60:13
 same-length : tie.Need-same-length Inv-loop μ-loop
 same-length c = c .before .before .put-last .kept .0 ∙ c .before .before .before .before .before .before .loop .inv .2 .size
 
--- src/steps.rt:60:13
 returns : tie.Need-returns Inv-loop μ-loop
 returns c =
     let at = c .before .before .before .before .before .before .loop in
@@ -76,15 +60,12 @@ returns c =
     (at .inv .2))
     (c .before .before .put-last .ensures)
 
--- src/steps.rt:63:13
 put-last-requires-2 : tie.Need-put-last-requires-2 Inv-loop μ-loop
 put-last-requires-2 c κs = (omega arith, omega (arith, c .before .before .before .before .before .before .loop .inv .2 .size, c .before .before .before .before .before .before .before .before .before .pre .1))
 
--- src/steps.rt:63:13
 same-length-2 : tie.Need-same-length-2 Inv-loop μ-loop
 same-length-2 c = c .before .before .put-last2 .kept .0 ∙ c .before .before .before .before .before .before .before .before .before .loop .inv .2 .size
 
--- src/steps.rt:63:13
 returns-2 : tie.Need-returns-2 Inv-loop μ-loop
 returns-2 c =
     let at = c .before .before .before .before .before .before .before .before .before .loop in
@@ -97,31 +78,24 @@ returns-2 c =
     (at .inv .2))
     (c .before .before .put-last2 .ensures)
 
--- src/steps.rt:65:32
 call-of-requires : tie.Need-call-of-requires Inv-loop μ-loop
 call-of-requires c κs = tt
 
--- src/steps.rt:65:13
 step-requires : tie.Need-step-requires Inv-loop μ-loop
 step-requires c κs = tt
 
--- src/steps.rt:67:36
 add-put-step : tie.Need-add-put-step Inv-loop μ-loop
 add-put-step c = omega arith
 
--- src/steps.rt:67:9
 put-step-requires : tie.Need-put-step-requires Inv-loop μ-loop
 put-step-requires c κs = (omega arith, omega (arith, c .before .before .before .before .before .before .before .before .loop .inv .2 .size, c .before .before .before .before .before .before .before .before .before .before .before .pre .1))
 
--- src/steps.rt:69:13
 rest-requires : tie.Need-rest-requires Inv-loop μ-loop
 rest-requires c κs = tt
 
--- src/steps.rt:71:9
 add-steps : tie.Need-add-steps Inv-loop μ-loop
 add-steps c = omega arith
 
--- src/steps.rt:57:5
 loop-less : tie.Need-loop-less Inv-loop μ-loop
 loop-less c = omega arith
 
@@ -139,7 +113,6 @@ turn c =
     (sym (c .before .before .before .before .before .before .before .before .before .before .before .before .read .ensures) ∙ c .before .before .before .before .before .before .before .before .before .before .found .given .1)
     (omega arith))
 
--- src/steps.rt:57:5
 loop-again : tie.Need-loop-again Inv-loop μ-loop
 loop-again c = (
   omega arith,

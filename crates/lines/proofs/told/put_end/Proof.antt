@@ -15,10 +15,6 @@ use Rattle.lines.proofs.Short.{end-short}
 use borrow.Author.Needs.{needs}
 use Rattle.lines.proofs.told.put_end.Statement.{statement}
 use Rattle.lines.proofs.told.put_end.Tie as tie
-use Rattle.lines.proofs.told.put_end.Reads as reads
-use Rattle.lines.proofs.told.put_end.Lts as lts
-use Rattle.lines.proofs.line.put_numbers.Reads as put-numbers-reads
-use Rattle.lines.proofs.line.put_word.Reads as put-word-reads
 
 -- the numbers after the word
 abbrev numbers-of : ℕ → Places → List ℕ
@@ -38,47 +34,36 @@ room :
     c .args .at + length (bytesOf (endLine (c .args .steps) (c .args .places))) ≤ length (c .args .out .now)
 room c = omega (arith, short c, c .pre .1)
 
--- src/told.rt:66:34
 slice-aggregate-put-word : tie.Need-slice-aggregate-put-word
 slice-aggregate-put-word c = search needs
 
--- src/told.rt:66:9
 put-word-requires : tie.Need-put-word-requires
 put-word-requires c κs = first-room (c .before .before .before .args .out .now) _ (endWord ++ 32 ∷ []) (joined (map decimal (numbers-of (c .before .before .before .args .steps) (c .before .before .before .args .places)))) (split (c .before .before .before .args .steps) (c .before .before .before .args .places)) (room (c .before .before .before))
 
--- src/told.rt:69:9
 cast-t12 : tie.Need-cast-t12
 cast-t12 c = search needs
 
--- src/told.rt:70:9
 cast-t13 : tie.Need-cast-t13
 cast-t13 c = search needs
 
--- src/told.rt:71:9
 cast-t14 : tie.Need-cast-t14
 cast-t14 c = search needs
 
--- src/told.rt:72:9
 cast-t15 : tie.Need-cast-t15
 cast-t15 c = search needs
 
--- src/told.rt:73:9
 cast-t16 : tie.Need-cast-t16
 cast-t16 c = search needs
 
--- src/told.rt:75:28
 slice-aggregate-put-numbers : tie.Need-slice-aggregate-put-numbers
 slice-aggregate-put-numbers c = search needs
 
--- src/told.rt:75:5
 put-numbers-requires : tie.Need-put-numbers-requires
 put-numbers-requires c κs = (lit< tt, second-room _ _ (endWord ++ 32 ∷ []) (joined (map decimal (numbers-of (c .before .before .before .before .before .before .before .before .before .before .before .before .before .args .steps) (c .before .before .before .before .before .before .before .before .before .before .before .before .before .args .places)))) (split (c .before .before .before .before .before .before .before .before .before .before .before .before .before .args .steps) (c .before .before .before .before .before .before .before .before .before .before .before .before .before .args .places)) (room (c .before .before .before .before .before .before .before .before .before .before .before .before .before)) (c .before .before .before .before .before .before .before .before .before .put-word .ensures))
 
--- src/told.rt:62:1
 same-length : tie.Need-same-length
 same-length c = search needs
 
--- src/told.rt:62:1
 returns : tie.Need-returns
 returns c =
     let all = both _ _ (endWord ++ 32 ∷ []) (joined (map decimal (numbers-of (c .before .before .before .before .before .before .before .before .before .before .before .before .before .before .before .before .args .steps) (c .before .before .before .before .before .before .before .before .before .before .before .before .before .before .before .before .args .places)))) (split (c .before .before .before .before .before .before .before .before .before .before .before .before .before .before .before .before .args .steps) (c .before .before .before .before .before .before .before .before .before .before .before .before .before .before .before .before .args .places)) (room (c .before .before .before .before .before .before .before .before .before .before .before .before .before .before .before .before)) (c .before .before .before .before .before .before .before .before .before .before .before .before .put-word .ensures) (c .before .before .put-numbers .ensures) in

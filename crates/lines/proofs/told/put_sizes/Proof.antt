@@ -10,9 +10,6 @@ use Rattle.lines.proofs.Short.{sizes-short}
 use borrow.Author.Needs.{needs}
 use Rattle.lines.proofs.told.put_sizes.Statement.{statement}
 use Rattle.lines.proofs.told.put_sizes.Tie as tie
-use Rattle.lines.proofs.told.put_sizes.Reads as reads
-use Rattle.lines.proofs.told.put_sizes.Lts as lts
-use Rattle.lines.proofs.line.put_numbers.Reads as put-numbers-reads
 
 short : (c : tie.Start) → length (bytesOf (sizesLine (c .args .sizes))) ≤ 40
 short c = sizes-short (c .args .sizes) (search needs) (search needs) (search needs) (search needs)
@@ -20,36 +17,28 @@ short c = sizes-short (c .args .sizes) (search needs) (search needs) (search nee
 room : (c : tie.Start) → c .args .at + length (bytesOf (sizesLine (c .args .sizes))) ≤ length (c .args .out .now)
 room c = omega (arith, short c, c .pre)
 
--- src/told.rt:47:20
 cast-t5 : tie.Need-cast-t5
 cast-t5 c = search needs
 
--- src/told.rt:47:42
 cast-t6 : tie.Need-cast-t6
 cast-t6 c = search needs
 
--- src/told.rt:47:62
 cast-t7 : tie.Need-cast-t7
 cast-t7 c = search needs
 
--- src/told.rt:47:82
 cast-t8 : tie.Need-cast-t8
 cast-t8 c = search needs
 
--- src/told.rt:48:26
 slice-aggregate-put-numbers : tie.Need-slice-aggregate-put-numbers
 slice-aggregate-put-numbers c = search needs
 
--- src/told.rt:48:5
 put-numbers-requires : tie.Need-put-numbers-requires
 unfolding bytesOf sizesLine
 put-numbers-requires c κs = (lit< tt, room (c .before .before .before .before .before .before .before))
 
--- src/told.rt:43:1
 same-length : tie.Need-same-length
 same-length c = search needs
 
--- src/told.rt:43:1
 returns : tie.Need-returns
 unfolding bytesOf sizesLine
 returns c =

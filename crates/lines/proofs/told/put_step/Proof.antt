@@ -1,7 +1,7 @@
 -- `lines::told::put_step` meets its contract: it hands over the numbers of `stepLine`, the answer's as `told_as` gives them. Assumes nothing.
 use Prim.Native.Nat.{ℕ, _+_, _≤_}
 use mathlib.Core.Path.{_≡_}
-use mathlib.Core.List.{List, [], _∷_, map}
+use mathlib.Core.List.{[], _∷_, map}
 use native.Mathlib.Omega.{arith}
 use lib.ListN.{length}
 use lib.Dec.{lit<}
@@ -16,10 +16,6 @@ use Rattle.lines.proofs.Short.{step-short}
 use borrow.Author.Needs.{needs}
 use Rattle.lines.proofs.told.put_step.Statement.{statement}
 use Rattle.lines.proofs.told.put_step.Tie as tie
-use Rattle.lines.proofs.told.put_step.Reads as reads
-use Rattle.lines.proofs.told.put_step.Lts as lts
-use Rattle.lines.proofs.line.put_numbers.Reads as put-numbers-reads
-use Rattle.lines.proofs.told.told_as.Reads as told-as-reads
 
 -- the line's bytes, with the answer's numbers
 line-bytes :
@@ -59,35 +55,27 @@ room :
     length (c .before .before .args .out .now)
 room c = omega (arith, short c, c .before .before .pre .1)
 
--- src/told.rt:109:9
 told-as-requires : tie.Need-told-as-requires
 told-as-requires c κs = search needs
 
--- src/told.rt:112:9
 cast-t8 : tie.Need-cast-t8
 cast-t8 c = search needs
 
--- src/told.rt:113:9
 cast-t9 : tie.Need-cast-t9
 cast-t9 c = search needs
 
--- src/told.rt:114:9
 cast-t10 : tie.Need-cast-t10
 cast-t10 c = search needs
 
--- src/told.rt:118:26
 slice-aggregate-put-numbers : tie.Need-slice-aggregate-put-numbers
 slice-aggregate-put-numbers c = search needs
 
--- src/told.rt:118:5
 put-numbers-requires : tie.Need-put-numbers-requires
 put-numbers-requires c κs = (lit< tt, rw (line (c .before .before .before .before .before)) at (room (c .before .before .before .before .before)))
 
--- src/told.rt:105:1
 same-length : tie.Need-same-length
 same-length c = search needs
 
--- src/told.rt:105:1
 returns : tie.Need-returns
 returns c =
     let now = c .before .before .before .before .before .before .before .before in (

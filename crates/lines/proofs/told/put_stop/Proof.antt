@@ -14,10 +14,6 @@ use Rattle.lines.proofs.Short.{stop-short}
 use borrow.Author.Needs.{needs}
 use Rattle.lines.proofs.told.put_stop.Statement.{statement}
 use Rattle.lines.proofs.told.put_stop.Tie as tie
-use Rattle.lines.proofs.told.put_stop.Reads as reads
-use Rattle.lines.proofs.told.put_stop.Lts as lts
-use Rattle.lines.proofs.line.put_numbers.Reads as put-numbers-reads
-use Rattle.lines.proofs.line.put_word.Reads as put-word-reads
 
 -- the numbers after the word
 abbrev numbers-of : ℕ → ℕ → List ℕ
@@ -35,27 +31,21 @@ room :
     c .args .at + length (bytesOf (stopLine (c .args .before) (c .args .number))) ≤ length (c .args .out .now)
 room c = omega (arith, short c, c .pre .1)
 
--- src/told.rt:83:34
 slice-aggregate-put-word : tie.Need-slice-aggregate-put-word
 slice-aggregate-put-word c = search needs
 
--- src/told.rt:83:9
 put-word-requires : tie.Need-put-word-requires
 put-word-requires c κs = first-room (c .before .before .before .args .out .now) _ (stopWord ++ 32 ∷ []) (joined (map decimal (numbers-of (c .before .before .before .args .before) (c .before .before .before .args .number)))) (split (c .before .before .before .args .before) (c .before .before .before .args .number)) (room (c .before .before .before))
 
--- src/told.rt:85:28
 slice-aggregate-put-numbers : tie.Need-slice-aggregate-put-numbers
 slice-aggregate-put-numbers c = search needs
 
--- src/told.rt:85:5
 put-numbers-requires : tie.Need-put-numbers-requires
 put-numbers-requires c κs = (lit< tt, second-room _ _ (stopWord ++ 32 ∷ []) (joined (map decimal (numbers-of (c .before .before .before .before .before .before .before .before .args .before) (c .before .before .before .before .before .before .before .before .args .number)))) (split (c .before .before .before .before .before .before .before .before .args .before) (c .before .before .before .before .before .before .before .before .args .number)) (room (c .before .before .before .before .before .before .before .before)) (c .before .before .before .before .put-word .ensures))
 
--- src/told.rt:79:1
 same-length : tie.Need-same-length
 same-length c = search needs
 
--- src/told.rt:79:1
 returns : tie.Need-returns
 returns c =
     let all = both _ _ (stopWord ++ 32 ∷ []) (joined (map decimal (numbers-of (c .before .before .before .before .before .before .before .before .before .before .before .args .before) (c .before .before .before .before .before .before .before .before .before .before .before .args .number)))) (split (c .before .before .before .before .before .before .before .before .before .before .before .args .before) (c .before .before .before .before .before .before .before .before .before .before .before .args .number)) (room (c .before .before .before .before .before .before .before .before .before .before .before)) (c .before .before .before .before .before .before .before .put-word .ensures) (c .before .before .put-numbers .ensures) in
