@@ -1,0 +1,59 @@
+-- `lines::told::put_sizes` meets its contract: it hands over the numbers of `sizesLine`. Assumes nothing.
+use Prim.Native.Nat.{_+_, _≤_}
+use native.Mathlib.Omega.{arith}
+use lib.ListN.{length}
+use lib.Dec.{lit<}
+use Rattle.lines.specs.Line.{bytesOf}
+use Rattle.lines.specs.Run.{sizesLine}
+use Rattle.lines.proofs.Appending.{up-to}
+use Rattle.lines.proofs.Short.{sizes-short}
+use borrow.Author.Needs.{needs}
+use Rattle.lines.proofs.told.put_sizes.Statement.{statement}
+use Rattle.lines.proofs.told.put_sizes.Tie as tie
+
+short : (c : tie.Start) → length (bytesOf (sizesLine (c .args .sizes))) ≤ 40
+short c = sizes-short (c .args .sizes) (search needs) (search needs) (search needs) (search needs)
+
+room : (c : tie.Start) → c .args .at + length (bytesOf (sizesLine (c .args .sizes))) ≤ length (c .args .out .now)
+room c = omega (arith, short c, c .pre)
+
+cast-t5 : tie.Need-cast-t5
+cast-t5 c = search needs
+
+cast-t6 : tie.Need-cast-t6
+cast-t6 c = search needs
+
+cast-t7 : tie.Need-cast-t7
+cast-t7 c = search needs
+
+cast-t8 : tie.Need-cast-t8
+cast-t8 c = search needs
+
+slice-aggregate-put-numbers : tie.Need-slice-aggregate-put-numbers
+slice-aggregate-put-numbers c = search needs
+
+put-numbers-requires : tie.Need-put-numbers-requires
+unfolding bytesOf sizesLine
+put-numbers-requires c κs = (lit< tt, room (c .before .before .before .before .before .before .before))
+
+same-length : tie.Need-same-length
+same-length c = search needs
+
+returns : tie.Need-returns
+unfolding bytesOf sizesLine
+returns c =
+    let all = c .before .before .put-numbers .ensures in
+    (up-to 40 all (short (c .before .before .before .before .before .before .before .before .before .before)), all)
+
+pub put-sizes-spec : {M : Type 1} → statement M
+put-sizes-spec =
+    tie.close
+    (tie.spec
+    cast-t5
+    cast-t6
+    cast-t7
+    cast-t8
+    slice-aggregate-put-numbers
+    put-numbers-requires
+    same-length
+    returns)

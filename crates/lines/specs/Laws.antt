@@ -1,0 +1,2 @@
+-- Lemmas behind the statements of `Promise`. Nothing here has to be believed.
+pub mod Enough
