@@ -98,7 +98,13 @@ pub(crate) fn put_sizes(out: &mut [u8], at: usize, sizes: SizesRecord) -> usize
 }
 
 // "Per step: number from 1, thread, operation, answer or refusal number, a, b."
-pub(crate) fn put_step(out: &mut [u8], at: usize, number: u32, step: StepRecord, answer: Answer) -> usize
+pub(crate) fn put_step(
+    out: &mut [u8],
+    at: usize,
+    number: u32,
+    step: StepRecord,
+    answer: Answer,
+) -> usize
     requires { ⌜ (number ≤ 6001) × (at + 40 ≤ length (now out)) ⌝ }
     ensures { λ r. ⌜ (r ≤ at + 40) × Appended (now (out .entry)) at (bytesOf (stepLine number step answer)) (now (out .exit)) r ⌝ }
 {

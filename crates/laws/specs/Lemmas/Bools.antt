@@ -20,6 +20,10 @@ pub ruleset ands = (and-l, and-r)
 pub and-i : {a b : Bool} → a ≡ true → b ≡ true → (a && b) ≡ true
 and-i {a} {b} p q = cc
 
+pub or-cases : (a b : Bool) → (a || b) ≡ true → a ≡ false → b ≡ true
+or-cases true b h ne = absurd (false≢true (sym ne))
+or-cases false b h ne = h
+
 -- a test is true or false, with the equation kept
 pub tested : (b : Bool) → (b ≡ true) ⊎ (b ≡ false)
 tested true = inl refl

@@ -15,9 +15,10 @@ use Rattle.machine.specs.declared.Phase.the-variants.{Idle, Loaded, Published, 
 use Rattle.machine.specs.Sizes.{inRange, allZero, positions, within}
 use Rattle.machine.specs.Phases.{phaseInRange}
 use Rattle.machine.specs.Soundness.{sizesGood, linkGood, threadGood, slotGood, freeGood, tagGood}
+use Rattle.machine.proofs.Bounds.{limits}
 use Rattle.laws.specs.Lemmas.Bools.{and-l, and-r, and-i, ands, tested}
 
--- the sizes of a state that has a thread
+-- the sizes of a sound state, and how many positions they make
 pub record Bounds (z : Sizes) : Type 0 where
   pub threads : z .threads ≤ 8
   pub slots : z .slots ≤ 4
@@ -25,42 +26,16 @@ pub record Bounds (z : Sizes) : Type 0 where
   pub objects : z .objects ≤ 240
   pub positions : z .threads * z .slots ≤ 32
 
-in-range-bounds : (z : Sizes) → inRange z ≡ true → Bounds z
-unfolding inRange
-in-range-bounds z h =
-    let t : z .threads ≤ 8 = leb-true _ _ (search ands depth 8) in
-    let s : z .slots ≤ 4 = leb-true _ _ (search ands depth 8) in
-    record {
-      threads = t;
-      slots = s;
-      links = leb-true _ _ (search ands depth 8);
-      objects = leb-true _ _ (search ands depth 8);
-      positions = mul-le-mul t s;
-    }
-
-zero-bounds : (z : Sizes) → allZero z ≡ true → Bounds z
-unfolding allZero
-zero-bounds z h =
-    let t : z .threads ≡ 0 = eqb-true _ _ (search ands depth 8) in
-    let s : z .slots ≡ 0 = eqb-true _ _ (search ands depth 8) in
-    let l : z .links ≡ 0 = eqb-true _ _ (search ands depth 8) in
-    let n : z .objects ≡ 0 = eqb-true _ _ (search ands depth 8) in
-    record {
-      threads = omega arith;
-      slots = omega arith;
-      links = omega arith;
-      objects = omega arith;
-      positions = rw (t, s) (omega arith);
-    }
-
-pub or-cases : (a b : Bool) → (a || b) ≡ true → (a ≡ false → b ≡ true)
-or-cases true b h ne = absurd (false≢true (sym ne))
-or-cases false b h ne = h
-
 pub bounds : (z : Sizes) → sizesGood z ≡ true → Bounds z
-unfolding sizesGood
 bounds z h =
-    ⊎-elim (in-range-bounds z) (λ out. zero-bounds z (or-cases (inRange z) (allZero z) h out)) (tested (inRange z))
+    let most = limits z h in
+    record {
+      threads = most .threads;
+      slots = most .slots;
+      links = most .links;
+      objects = most .objects;
+      positions = mul-le-mul (most .threads) (most .slots);
+    }
 
 -- thread × H + slot is a position
 pub position-less : (threads slots t slot : ℕ) → t < threads → slot < slots → t * slots + slot < threads * slots

@@ -10,7 +10,8 @@ use Rattle.machine.specs.declared.State.{State}
 use Rattle.machine.specs.Parts.{linkAt, threadAt, slotAt, idleThread, emptySlot}
 use Rattle.machine.specs.Soundness.{below, shaped, sizesGood, linkGood, threadGood, slotGood, freeGood, tagGood, places, sound}
 use Rattle.laws.specs.Lemmas.Bools.{ands, and-i}
-use Rattle.laws.specs.Lemmas.Each.{below-at, below-all, Each}
+use Rattle.machine.proofs.Below.{below-at, below-all}
+use Rattle.laws.specs.Lemmas.Each.{Each}
 
 -- how many entries each array has
 pub record Shape (s : State) : Type 0 where

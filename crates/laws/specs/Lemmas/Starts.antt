@@ -20,9 +20,9 @@ use Rattle.machine.specs.Parts.{idleThread, emptySlot, freeAt}
 use Rattle.machine.specs.Phases.{isIdle, carriedBy, phaseInRange}
 use Rattle.machine.specs.Soundness.{below, bit, times, shaped, sizesGood, linkGood, threadGood, slotGood, freeGood, tagGood, places, sound}
 use Rattle.machine.specs.Fresh.{marked, freshOf, blank}
-use Rattle.laws.specs.Lemmas.Bools.{ands, tested, bit-zero}
+use Rattle.laws.specs.Lemmas.Bools.{ands, or-cases, tested, bit-zero}
 use Rattle.laws.specs.Lemmas.Ranged.{Shape, Ranged, Sound, from-sound, to-sound}
-use Rattle.laws.specs.Lemmas.Good.{bounds, or-cases}
+use Rattle.laws.specs.Lemmas.Good.{bounds}
 
 pub blank-sound : sound blank ≡ true
 unfolding sound shaped sizesGood inRange allZero below linkGood threadGood slotGood freeGood tagGood isIdle blank
