@@ -1,5 +1,4 @@
 -- The contracts of `machine` determine their results: any two results that one of them allows are the same, by one law.
-use Prim.Native.Nat.{ℕ}
 use mathlib.Core.Path.{_≡_}
 use mathlib.Core.Bool.{Bool}
 use Rattle.machine.specs.declared.State.{State}

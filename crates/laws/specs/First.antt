@@ -1,7 +1,7 @@
 -- "The first that applies is given, in this order, and never otherwise": what that means for a table of numbered lines.
-use Prim.Native.Nat.{ℕ, _<_}
+use Prim.Native.Nat.{ℕ}
 use mathlib.Core.Path.{_≡_}
-use mathlib.Core.Bool.{Bool, true, false}
+use mathlib.Core.Bool.{true, false}
 use mathlib.Core.List.{List, [], _∷_}
 use Rattle.machine.specs.Refusals.{Row}
 

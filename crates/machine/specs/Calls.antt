@@ -1,5 +1,5 @@
 -- The table of calls: what each does to the state when it is accepted, and its answer. Operation 7 is in GoOn.
-use Prim.Native.Nat.{ℕ, zero, suc}
+use Prim.Native.Nat.{ℕ, suc}
 use mathlib.Core.Bool.{Bool, true, false, cond}
 use mathlib.Core.List.{List, [], _∷_}
 use lib.Dec.{eqb}

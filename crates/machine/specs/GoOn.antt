@@ -1,6 +1,6 @@
 -- "Go on": one step, by what the thread is in the middle of.
 use Prim.Native.Nat.{ℕ, suc}
-use mathlib.Core.Bool.{Bool, true, false, cond}
+use mathlib.Core.Bool.{true, false, cond}
 use lib.Dec.{ltb, eqb}
 use Rattle.machine.specs.declared.State.{State}
 use Rattle.machine.specs.declared.Slot.{Slot}

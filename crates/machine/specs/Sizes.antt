@@ -1,6 +1,6 @@
 -- "Sizes: T threads 1 to 8, H hazard slots per thread 1 to 4, L links 1 to 16, N objects 1 to 240."
 use Prim.Native.Nat.{ℕ, _*_}
-use mathlib.Core.Bool.{Bool, _&&_, _||_}
+use mathlib.Core.Bool.{Bool, _&&_}
 use lib.Dec.{leb, eqb}
 use Rattle.machine.specs.declared.Sizes.{Sizes}
 

@@ -1,5 +1,4 @@
 -- One call on any state: refused by the first line of the table that applies, with "the same state", or done.
-use Prim.Native.Nat.{ℕ}
 use mathlib.Core.Bool.{cond}
 use lib.Dec.{eqb}
 use Rattle.machine.specs.declared.State.{State}

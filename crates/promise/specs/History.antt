@@ -1,6 +1,6 @@
 -- A run: any calls in any order, each on the state that the last one handed back; and what is counted from its history alone.
 use Prim.Native.Nat.{ℕ}
-use mathlib.Core.Bool.{Bool, true, false, not, _&&_}
+use mathlib.Core.Bool.{Bool, _&&_}
 use mathlib.Core.List.{List, [], _∷_}
 use lib.Dec.{eqb}
 use Rattle.machine.specs.declared.State.{State}

@@ -1,9 +1,9 @@
 -- "Calls are listed at these moments: take, swap, read, retire and clear when accepted; protect when it answers 4 or 5." "Refused calls and
 -- unfinished protects are not listed."
 use Prim.Native.Nat.{ℕ}
-use mathlib.Core.Bool.{Bool, true, false, cond, not, _&&_, _||_}
+use mathlib.Core.Bool.{cond, _||_}
 use mathlib.Core.List.{List, [], _∷_, _++_, map}
-use lib.Dec.{eqb, ltb}
+use lib.Dec.{eqb}
 use Rattle.machine.specs.declared.Call.{Call}
 use Rattle.machine.specs.declared.Phase.{Phase}
 use Rattle.machine.specs.declared.Phase.the-variants.{Idle, Loaded, Published, Draining, Look, Swap}

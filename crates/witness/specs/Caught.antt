@@ -2,7 +2,7 @@
 -- slot protects is freed, taken anew with tag 33, and then read through the slot. The trap of draining first leaves an object behind and
 -- frees none too early; the traps of crate edges show it.
 use Prim.Native.Nat.{ℕ}
-use mathlib.Core.Path.{_≡_, refl, ap, sym, _∙_, subst, subst⁻¹, fun-ext}
+use mathlib.Core.Path.{_≡_, refl, sym, _∙_, subst, subst⁻¹, fun-ext}
 use mathlib.Core.Bool.{Bool, true, false, _&&_, false≢true}
 use mathlib.Core.List.{List, [], _∷_, _++_, map}
 use lib.Dec.{eqb}
@@ -11,7 +11,7 @@ use Rattle.machine.specs.declared.Sizes.{Sizes}
 use Rattle.machine.specs.declared.Call.{Call}
 use Rattle.machine.specs.Fresh.{freshOf}
 use Rattle.machine.specs.Answers.{Numbers}
-use Rattle.edges.specs.Runs.{call, on}
+use Rattle.edges.specs.Runs.{call}
 use Rattle.edges.specs.Rules.{Rules, machineOf, goOnBy, doneBy}
 use Rattle.edges.specs.TrapRules.{handOverAndMoveOn, publishAndMark, lookBy, lastMet}
 use Rattle.edges.specs.Traps.{Trap, moving-on, marking-at-once, freeing-at-last, skipping-own}

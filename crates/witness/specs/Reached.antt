@@ -5,7 +5,7 @@ use mathlib.Core.List.{List, [], _∷_, _++_}
 use Rattle.machine.specs.declared.Sizes.{Sizes}
 use Rattle.machine.specs.declared.Call.{Call}
 use Rattle.machine.specs.Fresh.{freshOf}
-use Rattle.machine.specs.Step.{doneOf, stepOf}
+use Rattle.machine.specs.Step.{doneOf}
 use Rattle.machine.specs.Count.{howMany}
 use Rattle.edges.specs.Runs.{call, on}
 use Rattle.edges.specs.Laws.Computing.{computing}

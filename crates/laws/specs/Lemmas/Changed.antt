@@ -1,28 +1,27 @@
 -- Each accepted call is one of four kinds of store, and a store changes what it stores and nothing else.
-use Prim.Native.Nat.{ℕ, zero, suc, _+_, _-_, _<_, _≤_}
+use Prim.Native.Nat.{ℕ, suc, _-_, _<_, _≤_}
 use native.Mathlib.Omega.{arith}
 use mathlib.Core.Path.{_≡_, refl, sym, ap, _∙_, subst}
-use mathlib.Core.Bool.{Bool, true, false, cond, false≢true}
-use lib.ListN.{length, getD, set}
+use mathlib.Core.Bool.{Bool, true, false, false≢true}
+use lib.ListN.{getD, set}
 use lib.Seq.{getD-set-same, getD-set-other}
-use lib.Dec.{eqb, ltb}
+use lib.Dec.{eqb}
 use borrow.Author.Tests.{eq-eqb, ne-eqb, lt-ltb, le-ltb}
 use Rattle.machine.specs.declared.State.{State}
 use Rattle.machine.specs.declared.Call.{Call}
 use Rattle.machine.specs.declared.Outcome.{Outcome}
 use Rattle.machine.specs.declared.Slot.{Slot}
-use Rattle.machine.specs.declared.Thread.{Thread}
 use Rattle.machine.specs.declared.Answer.{Answer}
 use Rattle.machine.specs.declared.Answer.the-variants.{Taken, Begun, Working, Protected, Nothing, Swapped, Moved, Tag, Finished, Left, Freed}
 use Rattle.machine.specs.declared.Phase.{Phase}
 use Rattle.machine.specs.declared.Phase.the-variants.{Idle, Loaded, Published, Draining, Look, Swap}
 use Rattle.machine.specs.Sizes.{positions}
-use Rattle.machine.specs.Parts.{linkAt, handOf, phaseOf, threadAt, slotAt, positionOf, freeAt, tagOf, withLink, withThread, withSlot, withObject, idleThread, emptySlot}
+use Rattle.machine.specs.Parts.{linkAt, handOf, phaseOf, threadAt, slotAt, positionOf, tagOf, withLink, withThread, withSlot, withObject, idleThread, emptySlot}
 use Rattle.machine.specs.Calls.{nextFree, expected, holding, takeOf, protectOf, swapOf, readOf, retireOf, clearOf}
 use Rattle.machine.specs.GoOn.{become, leaving, publishOf, confirmOf, drainOf, lookOf, handOverOf, goOnFrom, goOnOf}
 use Rattle.machine.specs.Refusals.{refusalOf, usesSlot, usesLink}
 use Rattle.machine.specs.Step.{doneOf, stepOf}
-use Rattle.laws.specs.Change.{nowhere, Only, NewThread, NewLink, NewSlot, NewObject}
+use Rattle.laws.specs.Change.{NewThread, NewLink, NewSlot, NewObject}
 use Rattle.laws.specs.Lemmas.Ranged.{Shape, Sound}
 use Rattle.laws.specs.Lemmas.Good.{bounds, loaded-facts, published-facts, draining-facts, look-facts, swap-facts}
 use Rattle.laws.specs.Lemmas.Free.{given}

@@ -1,12 +1,12 @@
 -- The five places of a sound state sum to N.
-use Prim.Native.Nat.{ℕ, zero, suc, _+_, _-_, _<_, _≤_}
+use Prim.Native.Nat.{ℕ, suc, _+_, _≤_}
 use native.Mathlib.Omega.{arith}
-use mathlib.Core.Path.{_≡_, refl, sym, ap, _∙_, subst}
-use mathlib.Core.Bool.{Bool, true, false, cond, not, _&&_, _||_, false≢true}
+use mathlib.Core.Path.{_≡_, ap}
+use mathlib.Core.Bool.{Bool, true, false}
 use mathlib.Core.Logic.{⊎-elim}
-use lib.ListN.{length, getD, List·getD-eq-default}
-use lib.Dec.{leb, ltb, eqb}
-use borrow.Author.Tests.{ltb-true, ltb-false, eqb-true, leb-true, le-ltb, not-true}
+use lib.ListN.{getD, List·getD-eq-default}
+use lib.Dec.{ltb}
+use borrow.Author.Tests.{ltb-true, ltb-false, eqb-true, le-ltb, not-true}
 use Rattle.machine.specs.declared.State.{State}
 use Rattle.machine.specs.declared.Sizes.{Sizes}
 use Rattle.machine.specs.declared.Thread.{Thread}
@@ -15,14 +15,14 @@ use Rattle.machine.specs.declared.Phase.{Phase}
 use Rattle.machine.specs.declared.Phase.the-variants.{Idle, Loaded, Published, Draining, Look, Swap}
 use Rattle.machine.specs.Sizes.{positions}
 use Rattle.machine.specs.Parts.{idleThread, emptySlot, freeAt}
-use Rattle.machine.specs.Phases.{isIdle, carriedBy, phaseInRange}
+use Rattle.machine.specs.Phases.{carriedBy, phaseInRange}
 use Rattle.machine.specs.Soundness.{bit, times, linkGood, threadGood, slotGood, freeGood, places}
-use Rattle.machine.specs.Count.{howMany, some, placesOf}
+use Rattle.machine.specs.Count.{placesOf}
 use Rattle.laws.specs.Lemmas.Bools.{ands, tested}
 use Rattle.laws.specs.Lemmas.Ranged.{Sound}
 use Rattle.laws.specs.Lemmas.Good.{link-most, hand-most, phase-good, slot-facts, look-facts, swap-facts}
 use Rattle.laws.specs.Lemmas.Free.{idle-carries}
-use Rattle.laws.specs.Lemmas.Sums.{sumTo, sum-ones, sum-same, sum-five, sum-times, sum-marks}
+use Rattle.laws.specs.Lemmas.Sums.{sum-ones, sum-same, sum-five, sum-times, sum-marks}
 use Rattle.laws.specs.Lemmas.Stores.{mark-of-number}
 
 -- good entries hold no object above N, within the sizes or beyond them

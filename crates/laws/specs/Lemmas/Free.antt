@@ -1,23 +1,23 @@
 -- The object that take gives: it is free, it is an object, and there is one exactly when some object is free.
 use Prim.Native.Nat.{ℕ, zero, suc, _+_, _-_, _<_, _≤_}
 use native.Mathlib.Omega.{arith}
-use mathlib.Core.Path.{_≡_, refl, sym, ap, _∙_, subst}
+use mathlib.Core.Path.{_≡_, refl, sym, _∙_, subst}
 use mathlib.Core.Bool.{Bool, true, false, false≢true}
 use mathlib.Core.Logic.{⊎-elim}
 use mathlib.Core.List.{List, [], _∷_}
 use lib.ListN.{length, getD}
 use lib.Dec.{ltb, eqb}
-use borrow.Author.Tests.{ltb-true, le-ltb, ltb-false, eqb-true, eqb-false, eq-eqb}
+use borrow.Author.Tests.{ltb-true, eq-eqb}
 use Rattle.machine.specs.declared.State.{State}
 use Rattle.machine.specs.declared.Phase.{Phase}
 use Rattle.machine.specs.declared.Phase.the-variants.{Idle, Loaded, Published, Draining, Look, Swap}
-use Rattle.machine.specs.Parts.{freeAt, threadAt, phaseOf, idleThread}
+use Rattle.machine.specs.Parts.{freeAt, phaseOf, idleThread}
 use Rattle.machine.specs.Phases.{isIdle, carriedBy}
-use Rattle.machine.specs.Soundness.{bit, times, places, freeGood}
+use Rattle.machine.specs.Soundness.{bit, places, freeGood}
 use Rattle.machine.specs.Calls.{firstOn, nextFree}
 use Rattle.laws.specs.Lemmas.Bools.{tested}
 use Rattle.laws.specs.Lemmas.Times.{times-at}
-use Rattle.laws.specs.Lemmas.Ranged.{Shape, Ranged, Sound}
+use Rattle.laws.specs.Lemmas.Ranged.{Ranged, Sound}
 
 pub record First (k : ℕ) (marks : List Bool) : Type 0 where
   pub index : ℕ

@@ -1,22 +1,21 @@
 -- A good entry as facts about its numbers, and back.
-use Prim.Native.Nat.{ℕ, zero, suc, _+_, _*_, _<_, _≤_}
+use Prim.Native.Nat.{ℕ, suc, _+_, _*_, _<_, _≤_}
 use native.Mathlib.Omega.{arith}
 use native.Mathlib.Nat.{mul-le-mul, mul-le-mul-right}
-use mathlib.Core.Path.{_≡_, refl, sym, ap, _∙_}
-use mathlib.Core.Bool.{Bool, true, false, cond, not, _&&_, _||_, false≢true}
-use mathlib.Core.Logic.{⊎-elim}
-use lib.Dec.{leb, ltb, eqb}
-use borrow.Author.Tests.{lt-ltb, le-leb, ltb-true, leb-true, eqb-true, eqb-false, eq-eqb, ne-eqb}
+use mathlib.Core.Path.{_≡_, refl}
+use mathlib.Core.Bool.{Bool, true, false, not, _||_, false≢true}
+use lib.Dec.{eqb}
+use borrow.Author.Tests.{lt-ltb, le-leb, ltb-true, leb-true, eq-eqb, ne-eqb}
 use Rattle.machine.specs.declared.Sizes.{Sizes}
 use Rattle.machine.specs.declared.Slot.{Slot}
 use Rattle.machine.specs.declared.Thread.{Thread}
 use Rattle.machine.specs.declared.Phase.{Phase}
 use Rattle.machine.specs.declared.Phase.the-variants.{Idle, Loaded, Published, Draining, Look, Swap}
-use Rattle.machine.specs.Sizes.{inRange, allZero, positions, within}
+use Rattle.machine.specs.Sizes.{positions}
 use Rattle.machine.specs.Phases.{phaseInRange}
 use Rattle.machine.specs.Soundness.{sizesGood, linkGood, threadGood, slotGood, freeGood, tagGood}
 use Rattle.machine.proofs.Bounds.{limits}
-use Rattle.laws.specs.Lemmas.Bools.{and-l, and-r, and-i, ands, tested}
+use Rattle.laws.specs.Lemmas.Bools.{and-i, ands}
 
 -- the sizes of a sound state, and how many positions they make
 pub record Bounds (z : Sizes) : Type 0 where

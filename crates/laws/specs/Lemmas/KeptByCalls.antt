@@ -1,23 +1,23 @@
 -- Each of the six calls, accepted, leaves a sound state sound.
-use Prim.Native.Nat.{ℕ, zero, suc, _+_, _*_, _-_, _<_, _≤_}
+use Prim.Native.Nat.{ℕ, suc, _-_, _<_, _≤_}
 use native.Mathlib.Omega.{arith}
-use mathlib.Core.Path.{_≡_, refl, sym, ap, _∙_, subst}
-use mathlib.Core.Bool.{Bool, true, false, cond, false≢true}
+use mathlib.Core.Path.{_≡_, refl}
+use mathlib.Core.Bool.{Bool, true, false, false≢true}
 use mathlib.Core.Logic.{⊎-elim}
 use lib.Dec.{eqb}
 use Rattle.machine.specs.declared.State.{State}
 use Rattle.machine.specs.declared.Phase.{Phase}
-use Rattle.machine.specs.declared.Phase.the-variants.{Idle, Loaded, Published, Draining, Look, Swap}
+use Rattle.machine.specs.declared.Phase.the-variants.{Loaded, Draining, Look}
 use Rattle.machine.specs.Sizes.{positions}
-use Rattle.machine.specs.Parts.{linkAt, handOf, phaseOf, slotAt, positionOf, withThread, withSlot, withObject, withLink, threadAt}
+use Rattle.machine.specs.Parts.{linkAt, handOf, phaseOf, slotAt, positionOf, withThread, withSlot, withLink, threadAt}
 use Rattle.machine.specs.Phases.{isIdle, carriedBy, phaseInRange}
-use Rattle.machine.specs.Soundness.{bit, places}
+use Rattle.machine.specs.Soundness.{bit}
 use Rattle.machine.specs.Calls.{nextFree, takeOf, protectOf, swapOf, retireOf, clearOf, expected, holding}
 use Rattle.laws.specs.Lemmas.Bools.{bit-zero, tested}
-use Rattle.laws.specs.Lemmas.Ranged.{Shape, Ranged, Sound}
-use Rattle.laws.specs.Lemmas.Good.{Bounds, bounds, position-less, link-good, link-most, thread-good, hand-most, phase-good, slot-good, slot-facts, free-good, tag-good, loaded-good, draining-good, look-good}
+use Rattle.laws.specs.Lemmas.Ranged.{Sound}
+use Rattle.laws.specs.Lemmas.Good.{bounds, position-less, link-good, link-most, thread-good, hand-most, phase-good, slot-good, slot-facts, free-good, tag-good, loaded-good, draining-good, look-good}
 use Rattle.laws.specs.Lemmas.Stores.{link-ranged, thread-ranged, slot-ranged, object-ranged, link-places, thread-places, slot-places, object-taken}
-use Rattle.laws.specs.Lemmas.Free.{Given, given, idle-carries}
+use Rattle.laws.specs.Lemmas.Free.{given, idle-carries}
 
 -- what is known of a thread of a sound state
 module _ (s : State) (h : Sound s) (t : ℕ) (less : t < s .sizes .threads) where

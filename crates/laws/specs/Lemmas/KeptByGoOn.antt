@@ -1,22 +1,21 @@
 -- Each case of go on leaves a sound state sound.
-use Prim.Native.Nat.{ℕ, zero, suc, _+_, _*_, _-_, _<_, _≤_}
+use Prim.Native.Nat.{ℕ, zero, suc, _-_, _<_, _≤_}
 use native.Mathlib.Omega.{arith}
-use mathlib.Core.Path.{_≡_, refl, sym, ap, _∙_, subst}
-use mathlib.Core.Bool.{Bool, true, false, cond, false≢true}
+use mathlib.Core.Path.{_≡_, refl, ap, _∙_}
+use mathlib.Core.Bool.{true, false, false≢true}
 use mathlib.Core.Logic.{⊎-elim}
 use lib.Dec.{eqb, ltb}
-use borrow.Author.Tests.{ltb-true, ltb-false, eqb-true, eqb-false}
+use borrow.Author.Tests.{ltb-true, eqb-true, eqb-false}
 use Rattle.machine.specs.declared.State.{State}
 use Rattle.machine.specs.declared.Phase.{Phase}
 use Rattle.machine.specs.declared.Phase.the-variants.{Idle, Loaded, Published, Draining, Look, Swap}
 use Rattle.machine.specs.Sizes.{positions}
-use Rattle.machine.specs.Parts.{linkAt, handOf, phaseOf, slotAt, positionOf, freeAt, withThread, withSlot, withObject, threadAt}
-use Rattle.machine.specs.Phases.{isIdle, carriedBy, phaseInRange}
-use Rattle.machine.specs.Soundness.{bit, places}
-use Rattle.machine.specs.Calls.{holding}
+use Rattle.machine.specs.Parts.{linkAt, handOf, phaseOf, slotAt, positionOf, withSlot, withObject}
+use Rattle.machine.specs.Phases.{carriedBy, phaseInRange}
+use Rattle.machine.specs.Soundness.{bit}
 use Rattle.machine.specs.GoOn.{become, leaving, publishOf, confirmOf, drainOf, lookOf, handOverOf, goOnFrom, goOnOf}
 use Rattle.laws.specs.Lemmas.Bools.{bit-zero, tested}
-use Rattle.laws.specs.Lemmas.Ranged.{Shape, Ranged, Sound}
+use Rattle.laws.specs.Lemmas.Ranged.{Sound}
 use Rattle.laws.specs.Lemmas.Good.{bounds, thread-good, slot-good, slot-facts, free-good, tag-good, loaded-good, published-good, idle-good, look-good, swap-good, loaded-facts, published-facts, draining-facts, look-facts, swap-facts}
 use Rattle.laws.specs.Lemmas.Stores.{thread-ranged, slot-ranged, object-ranged, thread-places, slot-places, object-freed}
 use Rattle.laws.specs.Lemmas.Free.{carried-not-free}

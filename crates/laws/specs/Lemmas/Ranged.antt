@@ -1,14 +1,13 @@
 -- Soundness as facts. `Ranged` is all of it but the one place of each object, so that a store keeps it by itself.
-use Prim.Native.Nat.{ℕ, zero, suc, _+_, _<_, _≤_}
-use native.Mathlib.Omega.{arith}
-use mathlib.Core.Path.{_≡_, refl, sym, ap, _∙_}
-use mathlib.Core.Bool.{Bool, true, false, _&&_}
+use Prim.Native.Nat.{ℕ, suc, _<_}
+use mathlib.Core.Path.{_≡_}
+use mathlib.Core.Bool.{true, false}
 use lib.ListN.{length, getD}
 use lib.Dec.{eqb}
 use borrow.Author.Tests.{eqb-true, eq-eqb}
 use Rattle.machine.specs.declared.State.{State}
 use Rattle.machine.specs.Parts.{linkAt, threadAt, slotAt, idleThread, emptySlot}
-use Rattle.machine.specs.Soundness.{below, shaped, sizesGood, linkGood, threadGood, slotGood, freeGood, tagGood, places, sound}
+use Rattle.machine.specs.Soundness.{shaped, sizesGood, linkGood, threadGood, slotGood, freeGood, tagGood, places, sound}
 use Rattle.laws.specs.Lemmas.Bools.{ands, and-i}
 use Rattle.machine.proofs.Below.{below-at, below-all}
 use Rattle.laws.specs.Lemmas.Each.{Each}

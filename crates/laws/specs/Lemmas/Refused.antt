@@ -1,18 +1,16 @@
 -- A refusal's number is the first line of the table that applies, and a refused call hands the state back.
-use Prim.Native.Nat.{ℕ, zero, suc}
-use native.Mathlib.Omega.{arith}
-use mathlib.Core.Path.{_≡_, refl, sym, ap, _∙_, subst}
-use mathlib.Core.Bool.{Bool, true, false, cond, false≢true}
+use Prim.Native.Nat.{ℕ}
+use mathlib.Core.Path.{_≡_, sym, ap, _∙_, subst}
+use mathlib.Core.Bool.{true, false, false≢true}
 use mathlib.Core.Logic.{⊎-elim, _↔_}
 use mathlib.Core.List.{List}
 use lib.Dec.{eqb}
-use borrow.Author.Tests.{eqb-true, eqb-false, ne-eqb, eq-eqb}
+use borrow.Author.Tests.{eqb-true, eqb-false, ne-eqb}
 use Rattle.machine.specs.declared.State.{State}
 use Rattle.machine.specs.declared.Call.{Call}
-use Rattle.machine.specs.declared.Answer.{Answer}
 use Rattle.machine.specs.declared.Answer.the-variants.{Refused}
 use Rattle.machine.specs.Answers.{numbersOf, numbers}
-use Rattle.machine.specs.Refusals.{Row, firstOf, refusals, refusalOf}
+use Rattle.machine.specs.Refusals.{Row, refusals, refusalOf}
 use Rattle.machine.specs.Step.{stepOf, doneOf}
 use Rattle.laws.specs.First.{NoneApplies, none, pass, FirstIs, here, later}
 use Rattle.laws.specs.Lemmas.Bools.{tested}

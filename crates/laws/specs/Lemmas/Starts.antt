@@ -1,27 +1,27 @@
 -- The fresh machine and the blank state are sound, and a sound state whose sizes are out of range is the blank one.
 use Prim.Native.Nat.{ℕ, zero, suc, _+_, _-_, _<_, _≤_}
 use native.Mathlib.Omega.{arith}
-use mathlib.Core.Path.{_≡_, refl, sym, ap, _∙_, subst}
-use mathlib.Core.Bool.{Bool, true, false, cond, not, _&&_, _||_, false≢true}
+use mathlib.Core.Path.{_≡_, refl, sym, _∙_, subst}
+use mathlib.Core.Bool.{Bool, true, false, not, false≢true}
 use mathlib.Core.Logic.{⊎-elim}
-use mathlib.Core.List.{List, [], _∷_, _++_}
+use mathlib.Core.List.{List, _++_}
 use lib.ListN.{length, getD, replicate, length-append, length-replicate, getD-replicate, List·getD-append}
 use lib.Seq.{getD-append-add, ext-getD}
-use lib.Dec.{leb, ltb, eqb, leb·zero, leb·suc-zero}
-use borrow.Author.Tests.{ltb-true, ltb-false, eqb-true, le-ltb, leb-true}
+use lib.Dec.{ltb, eqb, leb·zero, leb·suc-zero}
+use borrow.Author.Tests.{ltb-false, eqb-true}
 use Rattle.machine.specs.declared.State.{State}
 use Rattle.machine.specs.declared.Sizes.{Sizes}
 use Rattle.machine.specs.declared.Thread.{Thread}
 use Rattle.machine.specs.declared.Slot.{Slot}
 use Rattle.machine.specs.declared.Phase.{Phase}
 use Rattle.machine.specs.declared.Phase.the-variants.{Idle, Loaded, Published, Draining, Look, Swap}
-use Rattle.machine.specs.Sizes.{inRange, allZero, positions, within}
+use Rattle.machine.specs.Sizes.{inRange, allZero, positions}
 use Rattle.machine.specs.Parts.{idleThread, emptySlot, freeAt}
 use Rattle.machine.specs.Phases.{isIdle, carriedBy, phaseInRange}
 use Rattle.machine.specs.Soundness.{below, bit, times, shaped, sizesGood, linkGood, threadGood, slotGood, freeGood, tagGood, places, sound}
 use Rattle.machine.specs.Fresh.{marked, freshOf, blank}
 use Rattle.laws.specs.Lemmas.Bools.{ands, or-cases, tested, bit-zero}
-use Rattle.laws.specs.Lemmas.Ranged.{Shape, Ranged, Sound, from-sound, to-sound}
+use Rattle.laws.specs.Lemmas.Ranged.{Ranged, Sound, from-sound}
 use Rattle.laws.specs.Lemmas.Good.{bounds}
 
 pub blank-sound : sound blank ≡ true

@@ -1,21 +1,21 @@
 -- What one store does: the ranges stay good where the stored entry is good, and the places of an object change by what went and what
 -- came.
-use Prim.Native.Nat.{ℕ, zero, suc, _+_, _-_, _<_, _≤_}
+use Prim.Native.Nat.{ℕ, zero, suc, _+_, _-_, _<_}
 use native.Mathlib.Omega.{arith}
-use mathlib.Core.Path.{_≡_, refl, sym, ap, _∙_, subst}
-use mathlib.Core.Bool.{Bool, true, false, cond}
+use mathlib.Core.Path.{_≡_, sym}
+use mathlib.Core.Bool.{Bool, true, false}
 use mathlib.Core.Logic.{⊎-elim}
 use mathlib.Core.List.{List}
 use lib.ListN.{length, getD, set, length-set}
 use lib.Seq.{getD-set-same, getD-set-other}
 use lib.Dec.{eqb, eqb·suc-suc}
-use borrow.Author.Tests.{eqb-true, eqb-false, eq-eqb, ne-eqb}
+use borrow.Author.Tests.{eqb-true, eqb-false}
 use Rattle.machine.specs.declared.State.{State}
 use Rattle.machine.specs.declared.Slot.{Slot}
 use Rattle.machine.specs.declared.Phase.{Phase}
-use Rattle.machine.specs.Parts.{linkAt, threadAt, slotAt, handOf, phaseOf, freeAt, withLink, withThread, withSlot, withObject, idleThread, emptySlot}
+use Rattle.machine.specs.Parts.{linkAt, slotAt, handOf, phaseOf, freeAt, withLink, withThread, withSlot, withObject, idleThread, emptySlot}
 use Rattle.machine.specs.Phases.{carriedBy}
-use Rattle.machine.specs.Soundness.{bit, times, linkGood, threadGood, slotGood, freeGood, tagGood, places}
+use Rattle.machine.specs.Soundness.{bit, linkGood, threadGood, slotGood, freeGood, tagGood, places}
 use Rattle.laws.specs.Lemmas.Bools.{tested}
 use Rattle.laws.specs.Lemmas.Each.{each-set}
 use Rattle.laws.specs.Lemmas.Times.{times-set}

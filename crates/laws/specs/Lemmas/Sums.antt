@@ -1,16 +1,14 @@
 -- Summed over the objects, the places of each are the five counts; and each object has one.
-use Prim.Native.Nat.{ℕ, zero, suc, _+_, _-_, _<_, _≤_}
+use Prim.Native.Nat.{ℕ, zero, suc, _+_, _<_, _≤_}
 use native.Mathlib.Omega.{arith}
-use mathlib.Core.Path.{_≡_, refl, sym, ap, _∙_, subst}
-use mathlib.Core.Bool.{Bool, true, false, cond, not, _&&_, _||_, false≢true}
-use mathlib.Core.Logic.{⊎-elim}
+use mathlib.Core.Path.{_≡_, refl, ap, _∙_}
+use mathlib.Core.Bool.{Bool, false, not}
 use mathlib.Core.List.{List, [], _∷_}
 use lib.ListN.{length, getD}
-use lib.Dec.{leb, ltb, eqb, eqb·zero-suc, eqb·suc-zero, eqb·suc-suc}
-use borrow.Author.Tests.{ltb-true, ltb-false, eqb-true, leb-true, le-ltb}
+use lib.Dec.{eqb, eqb·suc-zero, eqb·suc-suc}
 use Rattle.machine.specs.Soundness.{bit, times}
 use Rattle.machine.specs.Count.{howMany, some}
-use Rattle.laws.specs.Lemmas.Bools.{tested, bit-zero}
+use Rattle.laws.specs.Lemmas.Bools.{bit-zero}
 
 -- f 0 + f 1 + .. + f (n - 1)
 pub sumTo : ℕ → (ℕ → ℕ) → ℕ

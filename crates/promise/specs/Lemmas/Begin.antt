@@ -1,15 +1,14 @@
 -- The fresh machine and the empty store satisfy the invariant.
-use Prim.Native.Nat.{ℕ, zero, suc, _+_, _-_, _<_, _≤_}
+use Prim.Native.Nat.{ℕ, _-_, _<_}
 use native.Mathlib.Omega.{arith}
-use mathlib.Core.Path.{_≡_, refl, sym, ap, _∙_, subst}
-use mathlib.Core.Bool.{Bool, true, false, false≢true}
+use mathlib.Core.Path.{_≡_, refl, sym, ap, _∙_}
+use mathlib.Core.Bool.{true, false≢true}
 use lib.ListN.{getD, replicate, getD-replicate}
-use Rattle.machine.specs.declared.State.{State}
 use Rattle.machine.specs.declared.Slot.{Slot}
 use Rattle.machine.specs.declared.Thread.{Thread}
 use Rattle.machine.specs.declared.Sizes.{Sizes}
 use Rattle.machine.specs.Sizes.{inRange, positions}
-use Rattle.machine.specs.Parts.{linkAt, slotAt, handOf, freeAt, idleThread, emptySlot}
+use Rattle.machine.specs.Parts.{slotAt, idleThread, emptySlot}
 use Rattle.machine.specs.Phases.{carriedBy}
 use Rattle.machine.specs.Soundness.{bit}
 use Rattle.machine.specs.Count.{howMany, placesOf}

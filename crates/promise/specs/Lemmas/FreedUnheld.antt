@@ -1,27 +1,25 @@
 -- When an object is freed, no link, no hand and no protected slot holds it.
-use Prim.Native.Nat.{ℕ, zero, suc, _+_, _-_, _<_, _≤_}
+use Prim.Native.Nat.{ℕ, _<_, _≤_}
 use native.Mathlib.Omega.{arith}
 use mathlib.Core.Path.{_≡_, refl, sym, ap, _∙_, subst}
-use mathlib.Core.Bool.{Bool, true, false, cond, false≢true}
-use mathlib.Core.Logic.{⊎-elim}
+use mathlib.Core.Bool.{Bool, true, false, cond}
 use lib.Dec.{eqb, ltb}
-use borrow.Author.Tests.{eqb-true, eqb-false, ne-eqb, ltb-false}
+use borrow.Author.Tests.{eqb-true, eqb-false, ltb-false}
 use Rattle.machine.specs.declared.State.{State}
 use Rattle.machine.specs.declared.Call.{Call}
 use Rattle.machine.specs.declared.Outcome.{Outcome}
 use Rattle.machine.specs.declared.Answer.{Answer}
-use Rattle.machine.specs.declared.Answer.the-variants.{Refused, Freed}
+use Rattle.machine.specs.declared.Answer.the-variants.{Freed}
 use Rattle.machine.specs.declared.Phase.{Phase}
 use Rattle.machine.specs.declared.Phase.the-variants.{Idle, Loaded, Published, Draining, Look, Swap}
 use Rattle.machine.specs.Sizes.{positions}
-use Rattle.machine.specs.Parts.{linkAt, slotAt, handOf, phaseOf, positionOf, withObject}
+use Rattle.machine.specs.Parts.{linkAt, slotAt, phaseOf, positionOf, withObject}
 use Rattle.machine.specs.Phases.{carriedBy}
 use Rattle.machine.specs.Answers.{numbersOf}
 use Rattle.machine.specs.Calls.{expected, takeOf, protectOf, swapOf, readOf, retireOf, clearOf}
 use Rattle.machine.specs.GoOn.{become, publishOf, confirmOf, drainOf, lookOf, handOverOf, goOnFrom, goOnOf}
 use Rattle.machine.specs.Refusals.{refusalOf}
 use Rattle.machine.specs.Step.{doneOf, stepOf}
-use Rattle.laws.specs.Lemmas.Bools.{tested}
 use Rattle.laws.specs.Lemmas.Ranged.{Sound}
 use Rattle.laws.specs.Lemmas.Good.{bounds, look-facts}
 use Rattle.laws.specs.Lemmas.KeptByCalls.{thread-eight}

@@ -1,16 +1,15 @@
 -- The invariant that makes freeing safe: what a marked slot holds is not free, and if it has been retired it lies at or below that slot.
-use Prim.Native.Nat.{ℕ, zero, suc, _+_, _-_, _<_, _≤_}
+use Prim.Native.Nat.{ℕ, _<_, _≤_}
 use native.Mathlib.Omega.{arith}
-use mathlib.Core.Path.{_≡_, refl, sym, ap, _∙_, subst}
-use mathlib.Core.Bool.{Bool, true, false, false≢true}
-use lib.Dec.{eqb}
+use mathlib.Core.Path.{_≡_, sym, ap, _∙_, subst}
+use mathlib.Core.Bool.{Bool, true, false}
 use Rattle.machine.specs.declared.State.{State}
 use Rattle.machine.specs.declared.Slot.{Slot}
 use Rattle.machine.specs.declared.Thread.{Thread}
 use Rattle.machine.specs.declared.Phase.{Phase}
 use Rattle.machine.specs.declared.Phase.the-variants.{Idle, Loaded, Published, Draining, Look, Swap}
 use Rattle.machine.specs.Sizes.{positions}
-use Rattle.machine.specs.Parts.{linkAt, slotAt, handOf, phaseOf, freeAt, withLink, withThread, withSlot, withObject}
+use Rattle.machine.specs.Parts.{slotAt, handOf, phaseOf, freeAt, withLink, withThread, withSlot, withObject}
 use Rattle.machine.specs.Phases.{carriedBy}
 use Rattle.machine.specs.Calls.{holding}
 use Rattle.machine.specs.GoOn.{become, leaving}

@@ -1,16 +1,15 @@
 -- What every moment of a run satisfies, and what has to be shown of one call.
-use Prim.Native.Nat.{ℕ, zero, suc, _+_, _-_, _<_, _≤_}
+use Prim.Native.Nat.{ℕ, _+_, _<_, _≤_}
 use native.Mathlib.Omega.{arith}
-use mathlib.Core.Path.{_≡_, refl, sym, ap, _∙_, subst}
-use mathlib.Core.Bool.{Bool, true, false}
-use mathlib.Core.List.{List, [], _∷_, map}
+use mathlib.Core.Path.{_≡_, refl, ap}
+use mathlib.Core.Bool.{true}
+use mathlib.Core.List.{[], _∷_, map}
 use Rattle.machine.specs.declared.State.{State}
 use Rattle.machine.specs.declared.Call.{Call}
 use Rattle.machine.specs.declared.Outcome.{Outcome}
-use Rattle.machine.specs.declared.Answer.{Answer}
 use Rattle.machine.specs.declared.Phase.{Phase}
 use Rattle.machine.specs.Sizes.{positions}
-use Rattle.machine.specs.Parts.{linkAt, slotAt, handOf, phaseOf, withThread}
+use Rattle.machine.specs.Parts.{linkAt, slotAt, handOf, withThread}
 use Rattle.machine.specs.Phases.{phaseInRange}
 use Rattle.machine.specs.Soundness.{bit}
 use Rattle.machine.specs.Answers.{Numbers, numbersOf}
@@ -20,7 +19,7 @@ use Rattle.laws.specs.Lemmas.Stores.{thread-ranged}
 use Rattle.laws.specs.Lemmas.KeptByCalls.{thread-eight, its-hand, link-holds}
 use Rattle.promise.specs.Store.{Store, Whole, says, next, storeSays, storeAfter}
 use Rattle.promise.specs.History.{Event, isRetire, isFreed}
-use Rattle.promise.specs.Reading.{Reading, noted, renamed, recordOf}
+use Rattle.promise.specs.Reading.{Reading, noted, renamed}
 use Rattle.promise.specs.Listing.{listedOf}
 use Rattle.promise.specs.Holdings.{waiting}
 use Rattle.promise.specs.Lemmas.OnePlace.{link-not-free, hand-not-free}

@@ -1,42 +1,27 @@
 -- The moves that calls and going on are made of: what each keeps of the invariant, and how many wait afterwards.
-use Prim.Native.Nat.{ℕ, zero, suc, _+_, _*_, _-_, _<_, _≤_}
+use Prim.Native.Nat.{ℕ, _<_, _≤_}
 use native.Mathlib.Omega.{arith}
-use mathlib.Core.Path.{_≡_, refl, sym, ap, _∙_, subst}
-use mathlib.Core.Bool.{Bool, true, false, cond, false≢true}
-use mathlib.Core.Logic.{⊎-elim}
-use mathlib.Core.List.{List, [], _∷_}
-use lib.ListN.{length}
-use lib.Dec.{eqb}
-use borrow.Author.Tests.{eqb-true, eqb-false, eq-eqb, ne-eqb}
+use mathlib.Core.Path.{_≡_, refl}
+use mathlib.Core.Bool.{Bool, true}
 use Rattle.machine.specs.declared.State.{State}
-use Rattle.machine.specs.declared.Call.{Call}
 use Rattle.machine.specs.declared.Phase.{Phase}
-use Rattle.machine.specs.declared.Phase.the-variants.{Idle, Loaded, Published, Draining, Look, Swap}
 use Rattle.machine.specs.Sizes.{positions}
-use Rattle.machine.specs.Parts.{linkAt, slotAt, handOf, phaseOf, positionOf, tagOf, withThread, withSlot}
-use Rattle.machine.specs.Phases.{isIdle, carriedBy}
+use Rattle.machine.specs.Parts.{slotAt, handOf, phaseOf, positionOf, withThread, withSlot}
+use Rattle.machine.specs.Phases.{carriedBy}
 use Rattle.machine.specs.Soundness.{bit}
 use Rattle.machine.specs.GoOn.{become, leaving}
-use Rattle.machine.specs.Count.{placesOf, some}
-use Rattle.machine.specs.Calls.{nextFree, holding, expected, takeOf, protectOf, swapOf, readOf, retireOf, clearOf}
-use Rattle.machine.specs.Refusals.{usesSlot, usesLink, protectedAt}
-use Rattle.laws.specs.Lemmas.Bools.{tested}
+use Rattle.machine.specs.Count.{some}
+use Rattle.machine.specs.Calls.{holding}
 use Rattle.laws.specs.Lemmas.Ranged.{Sound, Ranged}
-use Rattle.laws.specs.Lemmas.Good.{bounds, look-good, loaded-good}
-use Rattle.laws.specs.Lemmas.Free.{given, idle-carries}
-use Rattle.laws.specs.Lemmas.KeptByCalls.{thread-eight, its-hand, its-phase, link-holds, its-position, take-kept, protect-kept, swap-kept, retire-kept, clear-kept, hazard-kept}
-use Rattle.laws.specs.Lemmas.Accepted.{Accepted, is-sound, thread-less, was-idle, slot-less, link-less, hand-empty, some-free, hand-full, read-marked, swap-marked}
-use Rattle.promise.specs.Store.{Store, Whole, take, protect, swap, read, retire, clear, put, says, next, tagOfRecord}
-use Rattle.promise.specs.History.{isRetire, isFreed}
-use Rattle.promise.specs.Reading.{Reading, noted, renamed, recordOf}
-use Rattle.promise.specs.Listing.{listedOf, atOnce}
+use Rattle.laws.specs.Lemmas.Good.{bounds}
+use Rattle.laws.specs.Lemmas.KeptByCalls.{thread-eight, its-position, hazard-kept}
+use Rattle.promise.specs.Store.{Store}
+use Rattle.promise.specs.Reading.{Reading, recordOf}
 use Rattle.promise.specs.Holdings.{waiting}
-use Rattle.promise.specs.Lemmas.Reads.{same-or-not}
-use Rattle.promise.specs.Lemmas.Guarded.{Guarded, Guard, scanAt, marked-object, guarded-thread, guarded-object, guarded-hazard, guarded-exchange}
-use Rattle.promise.specs.Lemmas.Same.{Same, Held, record-none, record-some, put-same, put-other, compare-records, compare-none, same-hand, same-slot, same-leaving, same-freed}
-use Rattle.promise.specs.Lemmas.SameTake.{same-take}
+use Rattle.promise.specs.Lemmas.Guarded.{Guard, scanAt, marked-object, guarded-thread, guarded-hazard, guarded-exchange}
+use Rattle.promise.specs.Lemmas.Same.{same-hand, same-slot, same-leaving}
 use Rattle.promise.specs.Lemmas.Waiting.{waiting-thread, waiting-slot}
-use Rattle.promise.specs.Lemmas.Invariant.{Invariant, Matches, one-listed, none-listed, links-held, hands-held, slots-held, ranged-thread}
+use Rattle.promise.specs.Lemmas.Invariant.{Invariant}
 
 pub bit-none : bit (some 0) ≡ 0
 unfolding bit

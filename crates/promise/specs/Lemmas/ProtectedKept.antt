@@ -1,13 +1,13 @@
 -- A protected slot that is neither cleared nor published anew keeps its mark and its hazard, and its object is not handed out.
-use Prim.Native.Nat.{ℕ, zero, suc, _+_, _-_, _<_, _≤_}
+use Prim.Native.Nat.{ℕ, _+_, _<_}
 use native.Mathlib.Omega.{arith}
 use mathlib.Core.Path.{_≡_, refl, sym, ap, _∙_, subst}
-use mathlib.Core.Bool.{Bool, true, false, cond, _&&_, false≢true}
+use mathlib.Core.Bool.{Bool, true, false, cond, false≢true}
 use mathlib.Core.Logic.{⊎-elim}
 use mathlib.Core.List.{List, [], _∷_}
 use lib.ListN.{getD}
 use lib.Dec.{eqb, ltb}
-use borrow.Author.Tests.{eqb-true, eqb-false, eq-eqb, ne-eqb}
+use borrow.Author.Tests.{eqb-true, eqb-false, ne-eqb}
 use Rattle.machine.specs.declared.State.{State}
 use Rattle.machine.specs.declared.Slot.{Slot}
 use Rattle.machine.specs.declared.Sizes.{Sizes}
@@ -16,19 +16,19 @@ use Rattle.machine.specs.declared.Outcome.{Outcome}
 use Rattle.machine.specs.declared.Phase.{Phase}
 use Rattle.machine.specs.declared.Phase.the-variants.{Idle, Loaded, Published, Draining, Look, Swap}
 use Rattle.machine.specs.Sizes.{positions}
-use Rattle.machine.specs.Parts.{linkAt, slotAt, handOf, phaseOf, positionOf, withSlot, emptySlot}
+use Rattle.machine.specs.Parts.{linkAt, slotAt, phaseOf, positionOf, withSlot, emptySlot}
 use Rattle.machine.specs.Soundness.{bit}
 use Rattle.machine.specs.Answers.{numbersOf}
 use Rattle.machine.specs.Count.{howMany}
 use Rattle.machine.specs.Calls.{nextFree, expected, holding, takeOf, protectOf, swapOf, readOf, retireOf, clearOf}
-use Rattle.machine.specs.GoOn.{become, leaving, publishOf, confirmOf, drainOf, lookOf, handOverOf, goOnFrom, goOnOf}
+use Rattle.machine.specs.GoOn.{leaving, publishOf, confirmOf, drainOf, lookOf, handOverOf, goOnFrom, goOnOf}
 use Rattle.machine.specs.Refusals.{refusalOf, usesSlot}
 use Rattle.machine.specs.Step.{doneOf, stepOf}
 use Rattle.laws.specs.Lemmas.Bools.{tested}
 use Rattle.laws.specs.Lemmas.Ranged.{Sound}
 use Rattle.laws.specs.Lemmas.Good.{bounds, loaded-facts, published-facts, draining-facts, swap-facts}
 use Rattle.laws.specs.Lemmas.Free.{given}
-use Rattle.laws.specs.Lemmas.KeptByCalls.{thread-eight, its-position}
+use Rattle.laws.specs.Lemmas.KeptByCalls.{its-position}
 use Rattle.laws.specs.Lemmas.KeptByGoOn.{in-phase}
 use Rattle.laws.specs.Lemmas.Accepted.{Accepted, accepted, by-operation, thread-less, some-free, slot-less}
 use Rattle.promise.specs.Store.{Store}
@@ -37,7 +37,7 @@ use Rattle.promise.specs.Reading.{Reading}
 use Rattle.promise.specs.Holdings.{renews, handsOut, publishesAt}
 use Rattle.promise.specs.Lemmas.Reads.{same-or-not, slot-same, slot-other, hazard-kept, mark-kept}
 use Rattle.promise.specs.Lemmas.Guarded.{Guarded}
-use Rattle.promise.specs.Lemmas.Invariant.{Invariant, Matches}
+use Rattle.promise.specs.Lemmas.Invariant.{Invariant}
 use Rattle.promise.specs.Lemmas.Step.{step-matches, above-answers}
 
 -- the slot keeps its mark and hazard, and the object is not handed out

@@ -1,21 +1,20 @@
 -- From one call to a run, by going through its calls.
-use Prim.Native.Nat.{ℕ, zero, suc, _+_, _<_, _≤_}
+use Prim.Native.Nat.{ℕ, _+_}
 use native.Mathlib.Omega.{arith}
 use mathlib.Core.Path.{_≡_, refl, sym, ap, ap₂, _∙_, subst}
-use mathlib.Core.List.{List, [], _∷_, _++_, map}
+use mathlib.Core.List.{List, [], _∷_, _++_}
 use Rattle.machine.specs.declared.State.{State}
 use Rattle.machine.specs.declared.Sizes.{Sizes}
 use Rattle.machine.specs.declared.Call.{Call}
-use Rattle.machine.specs.Soundness.{bit}
-use Rattle.machine.specs.Answers.{Numbers, numbersOf}
+use Rattle.machine.specs.Answers.{Numbers}
 use Rattle.machine.specs.Count.{howMany}
 use Rattle.machine.specs.Step.{stepOf}
 use Rattle.promise.specs.Store.{Store, Whole, says, next, storeSays, storeAfter}
-use Rattle.promise.specs.History.{historyBy, stateBy, Event, eventOf, history, stateAfter, retires, freed, isRetire, isFreed}
-use Rattle.promise.specs.Reading.{Reading, noted, renamed, readingAfter}
+use Rattle.promise.specs.History.{historyBy, stateBy, eventOf, history, stateAfter, retires, freed}
+use Rattle.promise.specs.Reading.{Reading, noted, readingAfter}
 use Rattle.promise.specs.Listing.{listedOf, listing, machineSays}
 use Rattle.promise.specs.Holdings.{waiting}
-use Rattle.promise.specs.Lemmas.Invariant.{Invariant, Matches}
+use Rattle.promise.specs.Lemmas.Invariant.{Invariant}
 use Rattle.promise.specs.Lemmas.Step.{step-matches}
 
 module _ (perThread : ℕ) where

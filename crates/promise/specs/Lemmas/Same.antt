@@ -1,27 +1,24 @@
 -- The machine and the store hold the same records, and why that can be told from the objects' numbers: objects that are not free were
 -- handed out by different takes, and have the tags of their records.
-use Prim.Native.Nat.{ℕ, zero, suc, _+_, _-_, _<_, _≤_}
+use Prim.Native.Nat.{ℕ, zero, suc, _-_, _<_, _≤_}
 use native.Mathlib.Omega.{arith}
 use mathlib.Core.Path.{_≡_, refl, sym, ap, _∙_, subst}
-use mathlib.Core.Bool.{Bool, true, false, cond, false≢true}
-use mathlib.Core.List.{List, [], _∷_, _++_}
-use lib.ListN.{length, getD, length-append, List·getD-append}
-use lib.Seq.{getD-append-seam}
+use mathlib.Core.Bool.{Bool, true, false, false≢true}
+use lib.ListN.{length}
 use lib.Dec.{eqb}
 use borrow.Author.Tests.{eq-eqb, ne-eqb}
 use Rattle.machine.specs.declared.State.{State}
 use Rattle.machine.specs.declared.Slot.{Slot}
 use Rattle.machine.specs.declared.Thread.{Thread}
 use Rattle.machine.specs.declared.Phase.{Phase}
-use Rattle.machine.specs.Sizes.{positions}
-use Rattle.machine.specs.Parts.{linkAt, slotAt, handOf, phaseOf, freeAt, tagOf, withLink, withThread, withSlot, withObject}
+use Rattle.machine.specs.Parts.{linkAt, slotAt, handOf, freeAt, tagOf, withLink, withThread, withSlot, withObject}
 use Rattle.machine.specs.Calls.{holding}
 use Rattle.machine.specs.GoOn.{leaving}
-use Rattle.laws.specs.Lemmas.Ranged.{Sound, Shape}
+use Rattle.laws.specs.Lemmas.Ranged.{Shape}
 use Rattle.promise.specs.Store.{Store, put, tagOfRecord}
 use Rattle.promise.specs.Reading.{Reading, recordOf}
 use Rattle.promise.specs.Holdings.{SameHoldings}
-use Rattle.promise.specs.Lemmas.Reads.{same-or-not, link-same, link-other, thread-same, thread-other, slot-same, slot-other, hazard-kept, mark-kept, free-other, free-same, tag-other, tag-same}
+use Rattle.promise.specs.Lemmas.Reads.{same-or-not, link-same, link-other, thread-same, thread-other, slot-same, slot-other, hazard-kept, mark-kept, free-other, free-same, tag-other}
 
 pub put-same : (f : ℕ → ℕ) (i v : ℕ) → put f i v i ≡ v
 unfolding put

@@ -1,8 +1,8 @@
 -- A take: the object was free, so no link, hand or protected slot held it, and its new record is unlike every other.
-use Prim.Native.Nat.{ℕ, zero, suc, _+_, _-_, _<_, _≤_}
+use Prim.Native.Nat.{ℕ, zero, suc, _-_, _<_, _≤_}
 use native.Mathlib.Omega.{arith}
-use mathlib.Core.Path.{_≡_, refl, sym, ap, _∙_, subst}
-use mathlib.Core.Bool.{Bool, true, false, false≢true}
+use mathlib.Core.Path.{_≡_, sym, ap, _∙_, subst}
+use mathlib.Core.Bool.{true, false, false≢true}
 use mathlib.Core.List.{List, [], _∷_, _++_}
 use lib.ListN.{length, getD, length-append, List·getD-append}
 use lib.Seq.{getD-append-seam}
@@ -10,12 +10,11 @@ use Rattle.machine.specs.declared.State.{State}
 use Rattle.machine.specs.declared.Thread.{Thread}
 use Rattle.machine.specs.declared.Phase.{Phase}
 use Rattle.machine.specs.Sizes.{positions}
-use Rattle.machine.specs.Parts.{linkAt, slotAt, handOf, phaseOf, freeAt, tagOf, withThread, withObject}
+use Rattle.machine.specs.Parts.{linkAt, slotAt, handOf, freeAt, tagOf, withThread, withObject}
 use Rattle.laws.specs.Lemmas.Ranged.{Shape}
-use Rattle.promise.specs.Store.{Store, put, tagOfRecord}
+use Rattle.promise.specs.Store.{Store, put}
 use Rattle.promise.specs.Reading.{Reading, recordOf}
-use Rattle.promise.specs.Holdings.{SameHoldings}
-use Rattle.promise.specs.Lemmas.Reads.{same-or-not, thread-same, thread-other, free-other, free-same, tag-other, tag-same}
+use Rattle.promise.specs.Lemmas.Reads.{same-or-not, thread-same, thread-other, free-other, tag-other, tag-same}
 use Rattle.promise.specs.Lemmas.Same.{Same, Live, Held, record-none, record-some, put-same, put-other}
 
 -- the tag of a record made before is the same after one more is made, and the new one has the new tag

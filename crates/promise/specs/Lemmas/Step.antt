@@ -1,12 +1,12 @@
 -- One call of any kind, refused or not, matches what the store does.
-use Prim.Native.Nat.{ℕ, zero, suc, _+_, _<_, _≤_}
+use Prim.Native.Nat.{ℕ, _≤_}
 use native.Mathlib.Omega.{arith}
-use mathlib.Core.Path.{_≡_, refl, sym, ap, _∙_, subst}
-use mathlib.Core.Bool.{Bool, true, false, cond, _&&_, _||_, false≢true}
+use mathlib.Core.Path.{_≡_, refl, sym, subst}
+use mathlib.Core.Bool.{Bool, true, false, cond, _&&_}
 use mathlib.Core.Logic.{⊎-elim}
 use mathlib.Core.List.{List, [], _∷_}
 use lib.Dec.{eqb, leb}
-use borrow.Author.Tests.{eqb-true, eqb-false, eq-eqb, ne-eqb, lt-leb, leb-true}
+use borrow.Author.Tests.{eqb-true, eqb-false, ne-eqb, lt-leb, leb-true}
 use Rattle.machine.specs.declared.State.{State}
 use Rattle.machine.specs.declared.Call.{Call}
 use Rattle.machine.specs.declared.Answer.the-variants.{Refused}
@@ -19,10 +19,9 @@ use Rattle.machine.specs.Step.{doneOf, stepOf}
 use Rattle.laws.specs.Lemmas.Bools.{and-l, and-r, tested}
 use Rattle.laws.specs.Lemmas.Accepted.{Accepted, accepted, by-operation, thread-less, not-idle}
 use Rattle.promise.specs.Store.{Store}
-use Rattle.promise.specs.History.{Event, isRetire, isFreed}
+use Rattle.promise.specs.History.{isRetire, isFreed}
 use Rattle.promise.specs.Reading.{Reading, noted}
 use Rattle.promise.specs.Listing.{listedOf}
-use Rattle.promise.specs.Holdings.{waiting}
 use Rattle.promise.specs.Lemmas.Invariant.{Invariant, Matches, none-listed, event}
 use Rattle.promise.specs.Lemmas.StepCalls.{take-matches, protect-matches, swap-matches, read-matches, retire-matches, clear-matches}
 use Rattle.promise.specs.Lemmas.StepGoOn.{go-on-matches}

@@ -1,41 +1,36 @@
 -- Each of the six calls, accepted, matches what the store does.
-use Prim.Native.Nat.{ℕ, zero, suc, _+_, _*_, _-_, _<_, _≤_}
+use Prim.Native.Nat.{ℕ, suc, _<_}
 use native.Mathlib.Omega.{arith}
-use mathlib.Core.Path.{_≡_, refl, sym, ap, _∙_, subst}
-use mathlib.Core.Bool.{Bool, true, false, cond, false≢true}
+use mathlib.Core.Path.{_≡_, refl, sym, ap, _∙_}
+use mathlib.Core.Bool.{true, false, cond, false≢true}
 use mathlib.Core.Logic.{⊎-elim}
-use mathlib.Core.List.{List, [], _∷_}
-use lib.ListN.{length}
 use lib.Dec.{eqb}
-use borrow.Author.Tests.{eqb-true, eqb-false, eq-eqb, ne-eqb}
+use borrow.Author.Tests.{eq-eqb, ne-eqb}
 use Rattle.machine.specs.declared.State.{State}
 use Rattle.machine.specs.declared.Call.{Call}
-use Rattle.machine.specs.declared.Phase.{Phase}
-use Rattle.machine.specs.declared.Phase.the-variants.{Idle, Loaded, Published, Draining, Look, Swap}
-use Rattle.machine.specs.Sizes.{positions}
-use Rattle.machine.specs.Parts.{linkAt, slotAt, handOf, phaseOf, positionOf, tagOf, withThread, withSlot}
-use Rattle.machine.specs.Phases.{isIdle, carriedBy}
+use Rattle.machine.specs.declared.Phase.the-variants.{Loaded, Draining, Look}
+use Rattle.machine.specs.Parts.{linkAt, slotAt, handOf, phaseOf, positionOf, withThread}
+use Rattle.machine.specs.Phases.{carriedBy}
 use Rattle.machine.specs.Soundness.{bit}
 use Rattle.machine.specs.Answers.{numbersOf, numbers}
 use Rattle.machine.specs.Count.{placesOf, some}
-use Rattle.machine.specs.Calls.{nextFree, holding, expected, takeOf, protectOf, swapOf, readOf, retireOf, clearOf}
+use Rattle.machine.specs.Calls.{nextFree, expected, takeOf, protectOf, swapOf, readOf, retireOf, clearOf}
 use Rattle.machine.specs.Refusals.{usesSlot, usesLink, protectedAt}
 use Rattle.laws.specs.Lemmas.Bools.{tested}
-use Rattle.laws.specs.Lemmas.Ranged.{Sound, Ranged}
-use Rattle.laws.specs.Lemmas.Good.{bounds, look-good, loaded-good}
+use Rattle.laws.specs.Lemmas.Ranged.{Ranged}
+use Rattle.laws.specs.Lemmas.Good.{bounds}
 use Rattle.laws.specs.Lemmas.Free.{given, idle-carries}
-use Rattle.laws.specs.Lemmas.KeptByCalls.{thread-eight, its-hand, its-phase, link-holds, its-position, take-kept, protect-kept, swap-kept, retire-kept, clear-kept, hazard-kept}
-use Rattle.laws.specs.Lemmas.Accepted.{Accepted, is-sound, thread-less, was-idle, slot-less, link-less, hand-empty, some-free, hand-full, read-marked, swap-marked}
-use Rattle.promise.specs.Store.{Store, Whole, take, protect, swap, read, retire, clear, put, says, next, tagOfRecord}
+use Rattle.laws.specs.Lemmas.KeptByCalls.{thread-eight, its-phase, link-holds, its-position, take-kept, protect-kept, swap-kept, retire-kept, clear-kept}
+use Rattle.laws.specs.Lemmas.Accepted.{Accepted, thread-less, was-idle, slot-less, link-less, hand-empty, some-free, hand-full, read-marked, swap-marked}
+use Rattle.promise.specs.Store.{Store, take, swap, read, retire, clear, put, says, next, tagOfRecord}
 use Rattle.promise.specs.History.{isRetire, isFreed}
 use Rattle.promise.specs.Reading.{Reading, noted, renamed, recordOf}
 use Rattle.promise.specs.Listing.{listedOf, atOnce}
-use Rattle.promise.specs.Holdings.{waiting}
 use Rattle.promise.specs.Lemmas.Reads.{same-or-not}
-use Rattle.promise.specs.Lemmas.Guarded.{Guarded, Guard, scanAt, marked-object, guarded-thread, guarded-link, guarded-object, guarded-hazard}
-use Rattle.promise.specs.Lemmas.Same.{Same, Held, record-none, record-some, put-same, put-other, compare-records, compare-none, same-hand, same-link, same-slot}
+use Rattle.promise.specs.Lemmas.Guarded.{scanAt, marked-object, guarded-thread, guarded-link, guarded-object}
+use Rattle.promise.specs.Lemmas.Same.{Held, record-none, record-some, put-same, put-other, compare-records, same-hand, same-link}
 use Rattle.promise.specs.Lemmas.SameTake.{same-take}
-use Rattle.promise.specs.Lemmas.Waiting.{waiting-thread, waiting-slot}
+use Rattle.promise.specs.Lemmas.Waiting.{waiting-thread}
 use Rattle.promise.specs.Lemmas.Moves.{bit-none, become-invariant, become-waiting, hold-invariant, hold-waiting}
 use Rattle.promise.specs.Lemmas.Invariant.{Invariant, Matches, one-listed, none-listed, links-held, hands-held, slots-held, ranged-thread}
 

@@ -1,39 +1,36 @@
 -- Each case of go on matches what the store does: nothing, or a whole protect where it ends.
-use Prim.Native.Nat.{ℕ, zero, suc, _+_, _*_, _-_, _<_, _≤_}
+use Prim.Native.Nat.{ℕ, zero, suc, _<_, _≤_}
 use native.Mathlib.Omega.{arith}
 use mathlib.Core.Path.{_≡_, refl, sym, ap, _∙_, subst}
-use mathlib.Core.Bool.{Bool, true, false, cond, false≢true}
+use mathlib.Core.Bool.{true, false, false≢true}
 use mathlib.Core.Logic.{⊎-elim}
-use mathlib.Core.List.{List, [], _∷_}
 use lib.Dec.{eqb, ltb}
-use borrow.Author.Tests.{eqb-true, eqb-false, eq-eqb, ne-eqb, ltb-true, ltb-false}
+use borrow.Author.Tests.{eqb-true, eqb-false, ne-eqb, ltb-false}
 use Rattle.machine.specs.declared.State.{State}
 use Rattle.machine.specs.declared.Call.{Call}
 use Rattle.machine.specs.declared.Phase.{Phase}
 use Rattle.machine.specs.declared.Phase.the-variants.{Idle, Loaded, Published, Draining, Look, Swap}
 use Rattle.machine.specs.Sizes.{positions}
-use Rattle.machine.specs.Parts.{linkAt, slotAt, handOf, phaseOf, positionOf, tagOf, withThread, withSlot, withObject}
+use Rattle.machine.specs.Parts.{linkAt, slotAt, handOf, phaseOf, positionOf, withSlot, withObject}
 use Rattle.machine.specs.Phases.{isIdle, carriedBy}
 use Rattle.machine.specs.Soundness.{bit}
-use Rattle.machine.specs.Answers.{Numbers, numbersOf, numbers}
+use Rattle.machine.specs.Answers.{numbersOf, numbers}
 use Rattle.machine.specs.Count.{placesOf, some}
-use Rattle.machine.specs.Calls.{holding}
 use Rattle.machine.specs.GoOn.{become, leaving, publishOf, confirmOf, drainOf, lookOf, handOverOf, goOnFrom, goOnOf}
 use Rattle.laws.specs.Lemmas.Bools.{tested}
-use Rattle.laws.specs.Lemmas.Ranged.{Sound, Ranged}
+use Rattle.laws.specs.Lemmas.Ranged.{Ranged}
 use Rattle.laws.specs.Lemmas.Good.{bounds, slot-good, slot-facts, loaded-facts, published-facts, draining-facts, look-facts, swap-facts, idle-good}
 use Rattle.laws.specs.Lemmas.Stores.{slot-ranged}
-use Rattle.laws.specs.Lemmas.KeptByCalls.{thread-eight, its-hand, its-phase, link-holds, its-position}
+use Rattle.laws.specs.Lemmas.KeptByCalls.{thread-eight, its-hand, link-holds, its-position}
 use Rattle.laws.specs.Lemmas.KeptByGoOn.{in-phase, publish-kept, confirm-kept, drain-kept, hand-over-kept, look-kept, free-kept}
-use Rattle.promise.specs.Store.{Store, Whole, protect, put, says, next, tagOfRecord}
+use Rattle.promise.specs.Store.{Store, protect, put, says, next, tagOfRecord}
 use Rattle.promise.specs.History.{isRetire, isFreed}
 use Rattle.promise.specs.Reading.{Reading, noted, renamed, recordOf}
 use Rattle.promise.specs.Listing.{listedOf, ending}
-use Rattle.promise.specs.Holdings.{waiting, SameHoldings}
 use Rattle.promise.specs.Lemmas.Reads.{same-or-not}
 use Rattle.promise.specs.Lemmas.OnePlace.{link-not-free, link-not-handover, link-not-carried}
-use Rattle.promise.specs.Lemmas.Guarded.{Guarded, Guard, scanAt, marked-object, guarded-thread, guarded-object}
-use Rattle.promise.specs.Lemmas.Same.{Same, Held, record-some, put-same, put-other, compare-none, same-hand, same-freed}
+use Rattle.promise.specs.Lemmas.Guarded.{Guard, scanAt, guarded-thread, guarded-object}
+use Rattle.promise.specs.Lemmas.Same.{Same, record-some, put-same, put-other, compare-none, same-hand, same-freed}
 use Rattle.promise.specs.Lemmas.Waiting.{waiting-thread}
 use Rattle.promise.specs.Lemmas.Moves.{bit-none, carries-none, become-invariant, become-waiting, hold-invariant, hold-waiting, carry-invariant, carry-waiting, exchange-invariant, exchange-waiting}
 use Rattle.promise.specs.Lemmas.Invariant.{Invariant, Matches, one-listed, none-listed, links-held, ranged-thread}

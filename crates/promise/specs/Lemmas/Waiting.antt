@@ -1,12 +1,12 @@
 -- How many are given up and not yet freed: one store changes the number by what went and what came, and there is room for T × (H + 1).
-use Prim.Native.Nat.{ℕ, zero, suc, _+_, _*_, _-_, _<_, _≤_}
+use Prim.Native.Nat.{ℕ, zero, suc, _+_, _*_, _<_, _≤_}
 use native.Mathlib.Omega.{arith}
-use mathlib.Core.Path.{_≡_, refl, sym, ap, _∙_, subst}
-use mathlib.Core.Bool.{Bool, true, false, cond, not, _&&_, false≢true}
+use mathlib.Core.Path.{_≡_, ap}
+use mathlib.Core.Bool.{Bool, true, false}
 use mathlib.Core.Logic.{⊎-elim}
 use mathlib.Core.List.{List, [], _∷_}
 use lib.ListN.{length, getD, set, List·getD-eq-default}
-use lib.Dec.{eqb, ltb}
+use lib.Dec.{ltb}
 use borrow.Author.Tests.{eqb-true, eq-eqb, ltb-true, ltb-false, le-ltb}
 use Rattle.machine.specs.declared.State.{State}
 use Rattle.machine.specs.declared.Slot.{Slot}
@@ -14,11 +14,11 @@ use Rattle.machine.specs.declared.Thread.{Thread}
 use Rattle.machine.specs.declared.Phase.{Phase}
 use Rattle.machine.specs.Sizes.{positions}
 use Rattle.machine.specs.Parts.{slotAt, phaseOf, withThread, withSlot, idleThread, emptySlot}
-use Rattle.machine.specs.Phases.{isIdle, carriedBy}
+use Rattle.machine.specs.Phases.{carriedBy}
 use Rattle.machine.specs.Soundness.{bit, slotGood, threadGood}
 use Rattle.machine.specs.Count.{howMany, some, placesOf}
 use Rattle.laws.specs.Lemmas.Bools.{ands, tested}
-use Rattle.laws.specs.Lemmas.Ranged.{Shape, Ranged, Sound}
+use Rattle.laws.specs.Lemmas.Ranged.{Shape, Ranged}
 use Rattle.laws.specs.Lemmas.Free.{idle-carries}
 use Rattle.promise.specs.Holdings.{waiting}
 

@@ -1,10 +1,9 @@
 -- The parts of the promise, from the invariant at the end of a run.
-use Prim.Native.Nat.{ℕ, zero, suc, _+_, _*_, _-_, _<_, _≤_}
+use Prim.Native.Nat.{ℕ, _+_, _*_, _-_, _<_, _≤_}
 use native.Mathlib.Omega.{arith}
-use mathlib.Core.Path.{_≡_, refl, sym, ap, _∙_, subst}
+use mathlib.Core.Path.{_≡_, sym, ap, _∙_, subst}
 use mathlib.Core.Bool.{true}
 use mathlib.Core.List.{List}
-use Rattle.machine.specs.declared.State.{State}
 use Rattle.machine.specs.declared.Sizes.{Sizes}
 use Rattle.machine.specs.declared.Call.{Call}
 use Rattle.machine.specs.declared.Answer.the-variants.{Refused, Freed}
@@ -13,7 +12,7 @@ use Rattle.machine.specs.Parts.{slotAt}
 use Rattle.machine.specs.Fresh.{freshOf}
 use Rattle.machine.specs.Step.{stepOf}
 use Rattle.machine.specs.Count.{howMany, placesOf}
-use Rattle.laws.specs.Lemmas.Ranged.{Sound, from-sound}
+use Rattle.laws.specs.Lemmas.Ranged.{from-sound}
 use Rattle.laws.specs.Lemmas.FivePlaces.{five-sum}
 use Rattle.laws.specs.Lemmas.Refused.{is-refused}
 use Rattle.promise.specs.Store.{nothing, storeSays}
