@@ -62,14 +62,11 @@ drop-take zero n bs = rw zero-add
 drop-take (suc k) n [] = rw (suc-add, take-nil)
 drop-take (suc k) n (b ∷ bs) = rw suc-add (drop-take k n bs)
 
--- after a record, the bytes left of a part are a part of the bytes left
-rest-same : (n : ℕ) (bs : List ℕ) (r : StepRecord) → readOf bs ≡ Step r → restOf (take (10 + n) bs) ≡ take n (restOf bs)
-unfolding restOf restAfter
-rest-same n bs r e = rw (read-same (10 + n) bs (omega arith), e) (drop-take 10 n bs)
-
-rest-same-sizes : (n : ℕ) (bs : List ℕ) (r : SizesRecord) → readOf bs ≡ Sizes r → restOf (take (10 + n) bs) ≡ take n (restOf bs)
-unfolding restOf restAfter
-rest-same-sizes n bs r e = rw (read-same (10 + n) bs (omega arith), e) (drop-take 10 n bs)
+-- after a record of either kind, the bytes left of a part are a part of the bytes left
+rest-same : (n : ℕ) (bs : List ℕ) (found : Read) → readOf bs ≡ found → ((l : List ℕ) → restAfter found l ≡ drop 10 l) → restOf (take (10 + n) bs) ≡ take n (restOf bs)
+unfolding restOf
+rest-same n bs found e after =
+    rw (read-same (10 + n) bs (omega arith), e, after (take (10 + n) bs), after bs) (drop-take 10 n bs)
 
 lines-same : (steps : ℕ) (s : State) (more other : State → List Line) (found : Read) → ((r : StepRecord) → found ≡ Step r → (next : State) → more next ≡ other next) → linesAt steps s more found ≡ linesAt steps s other found
 unfolding linesAt
@@ -79,14 +76,14 @@ lines-same steps s more other End h = refl
 lines-same steps s more other (Refused number) h = refl
 
 from-same : (records steps : ℕ) (s : State) (bs : List ℕ) → linesFrom records steps s (take (10 * records) bs) ≡ linesFrom records steps s bs
-unfolding linesFrom
+unfolding linesFrom restAfter
 from-same zero steps s bs = refl
 from-same (suc records) steps s bs =
     let record-more : 10 * suc records ≡ 10 + 10 * records = omega arith in
     rw (record-more, read-same (10 + 10 * records) bs (omega arith))
     (lines-same steps s _ _ (readOf bs)
     (λ r e next.
-    ap {B = List Line} (linesFrom records (steps + 1) next) (rest-same (10 * records) bs r e) ∙
+    ap {B = List Line} (linesFrom records (steps + 1) next) (rest-same (10 * records) bs (Step r) e (λ l. refl)) ∙
     from-same records (steps + 1) next (restOf bs)))
 
 module _ (n : ℕ) (all : n ≡ 10 * 6001) where
@@ -96,8 +93,8 @@ module _ (n : ℕ) (all : n ≡ 10 * 6001) where
   started-same r s (verdict.Refused number) rest = refl
 
   first-same : (input : List ℕ) (found : Read) → readOf input ≡ found → linesFirst found (restOf (take (10 + n) input)) ≡ linesFirst found (restOf input)
-  unfolding linesFirst linesSized
-  first-same input (Sizes r) e = rw (rest-same-sizes n input r e) (started-same r _ _ (restOf input))
+  unfolding linesFirst linesSized restAfter
+  first-same input (Sizes r) e = rw (rest-same n input (Sizes r) e (λ l. refl)) (started-same r _ _ (restOf input))
   first-same input (Step r) e = refl
   first-same input End e = refl
   first-same input (Refused number) e = refl
