@@ -1,0 +1,17 @@
+// A second machine, written from document 01 alone, to be run beside the first.
+//
+// It keeps one place for each object, where the first machine keeps one object for each place. So no object can be in two
+// places here, and what stands in a link or a hand is found by a search over the objects. A plain store that runs, and a
+// soundness check over plain numbers, stand beside it. Every number is a `usize`, tags included.
+mod calls;
+mod go_on;
+mod place;
+mod trap;
+mod twin;
+
+pub use twin::Order;
+pub use twin::Said;
+pub use twin::Stepped;
+pub use twin::Task;
+pub use twin::Twin;
+pub use twin::start;
