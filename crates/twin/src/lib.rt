@@ -4,11 +4,19 @@
 // places here, and what stands in a link or a hand is found by a search over the objects. A plain store that runs, and a
 // soundness check over plain numbers, stand beside it. Every number is a `usize`, tags included.
 mod calls;
+mod exchange;
 mod go_on;
 mod place;
+mod raw;
+mod store;
 mod trap;
 mod twin;
 
+pub use raw::Raw;
+pub use raw::empty;
+pub use store::Store;
+pub use store::Told;
+pub use store::bare;
 pub use twin::Order;
 pub use twin::Said;
 pub use twin::Stepped;

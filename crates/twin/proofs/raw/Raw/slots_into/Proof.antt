@@ -1,0 +1,87 @@
+-- `twin::raw::Raw::slots_into` is safe and ends: each turn of its loop counts one up to a fixed bound. Assumes nothing.
+use borrow.Author.Needs.{needs}
+use Prim.Native.Nat.{_≤_, _-_}
+use Rattle.twin.proofs.raw.Raw.slots_into.Statement.{statement}
+use Rattle.twin.proofs.raw.Raw.slots_into.Tie as tie
+use Rattle.twin.proofs.place.handover.Reads as handover-reads
+
+abbrev Inv-loop : tie.InvT-loop
+Inv-loop self w₀ p₀ w p = p ≤ 32
+
+abbrev μ-loop : tie.MeasureT-loop
+μ-loop self w₀ p₀ w p = 32 - p
+
+loop-holds : tie.Need-loop-holds Inv-loop μ-loop
+loop-holds c = search needs
+
+mul-w : tie.Need-mul-w Inv-loop μ-loop
+mul-w c = search needs
+
+element-copy-out-w : tie.Need-element-copy-out-w Inv-loop μ-loop
+element-copy-out-w c = search needs
+
+mul-w-2 : tie.Need-mul-w-2 Inv-loop μ-loop
+mul-w-2 c = search needs
+
+element-write-w : tie.Need-element-write-w Inv-loop μ-loop
+element-write-w c = search needs
+
+mul-w-3 : tie.Need-mul-w-3 Inv-loop μ-loop
+mul-w-3 c = search needs
+
+element-copy-out-w-2 : tie.Need-element-copy-out-w-2 Inv-loop μ-loop
+element-copy-out-w-2 c = search needs
+
+element-write-w-2 : tie.Need-element-write-w-2 Inv-loop μ-loop
+element-write-w-2 c = search needs
+
+mul-object : tie.Need-mul-object Inv-loop μ-loop
+mul-object c = search needs
+
+element-copy-out-object : tie.Need-element-copy-out-object Inv-loop μ-loop
+element-copy-out-object c = search needs
+
+handover-requires : tie.Need-handover-requires Inv-loop μ-loop
+handover-requires c κs = search needs
+
+mul-w-4 : tie.Need-mul-w-4 Inv-loop μ-loop
+mul-w-4 c = search needs
+
+element-write-w-3 : tie.Need-element-write-w-3 Inv-loop μ-loop
+element-write-w-3 c = search needs
+
+add-p : tie.Need-add-p Inv-loop μ-loop
+add-p c = search needs
+
+loop-less : tie.Need-loop-less Inv-loop μ-loop
+loop-less c = search needs
+
+loop-again : tie.Need-loop-again Inv-loop μ-loop
+loop-again c = search needs
+
+returns : tie.Need-returns Inv-loop μ-loop
+returns c = search needs
+
+pub slots-into-spec : {M : Type 1} → statement M
+slots-into-spec =
+    tie.close
+    (tie.spec
+    Inv-loop
+    μ-loop
+    loop-holds
+    mul-w
+    element-copy-out-w
+    mul-w-2
+    element-write-w
+    mul-w-3
+    element-copy-out-w-2
+    element-write-w-2
+    mul-object
+    element-copy-out-object
+    handover-requires
+    mul-w-4
+    element-write-w-3
+    add-p
+    loop-less
+    loop-again
+    returns)
