@@ -191,6 +191,23 @@ impl Raw {
         self.threads == other.threads && self.slots == other.slots && self.links == other.links && self.objects == other.objects
     }
 
+    // The same objects in links, hands and slots with the mark on.
+    pub fn same_held(self, other: Raw) -> bool {
+        same(&self.link, &other.link) && same(&self.hand, &other.hand) && self.same_protected(other)
+    }
+
+    fn same_protected(self, other: Raw) -> bool {
+        for p in 0..32 {
+            if self.mark[p] != other.mark[p] {
+                return false;
+            }
+            if self.mark[p] != 0 && self.hazard[p] != other.hazard[p] {
+                return false;
+            }
+        }
+        true
+    }
+
     pub fn same(self, other: Raw) -> bool {
         self.same_sizes(other)
             && same(&self.link, &other.link)

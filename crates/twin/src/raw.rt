@@ -72,6 +72,18 @@ fn scans(task: Task) -> bool {
     task.doing == twin::LOOK || task.doing == twin::SWAP
 }
 
+// The same among the objects that threads carry.
+fn carried(tasks: [Task; 8], object: usize, before: usize) -> usize {
+    let mut times = before;
+    for t in 0..8 {
+        let task = tasks[t];
+        if scans(task) && task.seen == object {
+            times = again(times);
+        }
+    }
+    times
+}
+
 impl Raw {
     // "all sizes .. 0", or "its sizes are in range".
     fn sized(self) -> bool {
@@ -148,18 +160,6 @@ impl Raw {
         true
     }
 
-    // Found among the objects that threads carry.
-    fn carried(self, object: usize, before: usize) -> usize {
-        let mut times = before;
-        for t in 0..8 {
-            let task = self.task[t];
-            if scans(task) && task.seen == object {
-                times = again(times);
-            }
-        }
-        times
-    }
-
     fn free_mark(self, object: usize) -> usize {
         if 1 <= object {
             if object <= 240 {
@@ -175,7 +175,8 @@ impl Raw {
         let linked = found(&self.link, object, start);
         let held = found(&self.hand, object, linked);
         let left = found(&self.handover, object, held);
-        self.carried(object, left)
+        let tasks = self.task;
+        carried(tasks, object, left)
     }
 
     // "every object 1 to N is in exactly one place".

@@ -111,6 +111,25 @@ pub fn start(threads: usize, slots: usize, links: usize, objects: usize) -> Step
     answer(fresh, 0, 0, 0)
 }
 
+fn lowest(places: &[usize; 241], place: usize) -> usize {
+    for o in 1..241 {
+        if places[o] == place {
+            return o;
+        }
+    }
+    0
+}
+
+fn of_kind(places: &[usize; 241], kind: usize) -> usize {
+    let mut n = 0;
+    for o in 1..241 {
+        if places[o] / 100 == kind {
+            n += 1;
+        }
+    }
+    n
+}
+
 impl Twin {
     fn all_free(mut self, objects: usize) -> Twin {
         for o in 1..241 {
@@ -121,25 +140,19 @@ impl Twin {
         self
     }
 
+    pub fn in_trap(mut self, trap: usize) -> Twin {
+        self.trap = trap;
+        self
+    }
+
     // The lowest-numbered object at a place, or 0.
     pub fn at(self, place: usize) -> usize {
-        for o in 1..241 {
-            if self.place[o] == place {
-                return o;
-            }
-        }
-        0
+        lowest(&self.place, place)
     }
 
     // How many objects are in places of one kind.
     pub fn count(self, kind: usize) -> usize {
-        let mut n = 0;
-        for o in 1..241 {
-            if self.place[o] / 100 == kind {
-                n += 1;
-            }
-        }
-        n
+        of_kind(&self.place, kind)
     }
 
     pub fn put(mut self, object: usize, place: usize) -> Twin {
@@ -196,5 +209,17 @@ impl Twin {
     // T × H, the number of positions.
     pub fn positions(self) -> usize {
         place::position(self.threads, self.slots, 0)
+    }
+
+    // T × (H + 1), the most objects that can wait to be freed.
+    pub fn bound(self) -> usize {
+        let all = self.positions();
+        let threads = self.threads;
+        if threads < 9 {
+            if all < 33 {
+                return all + threads;
+            }
+        }
+        0
     }
 }

@@ -1,14 +1,14 @@
--- `twin::twin::Twin::at` is safe and ends: each turn of its loop counts one up to a fixed bound. Assumes nothing.
+-- `twin::twin::lowest` is safe and ends: each turn of its loop counts one up to a fixed bound. Assumes nothing.
 use borrow.Author.Needs.{needs}
 use Prim.Native.Nat.{_≤_, _-_}
-use Rattle.twin.proofs.twin.Twin.at.Statement.{statement}
-use Rattle.twin.proofs.twin.Twin.at.Tie as tie
+use Rattle.twin.proofs.twin.lowest.Statement.{statement}
+use Rattle.twin.proofs.twin.lowest.Tie as tie
 
 abbrev Inv-loop : tie.InvT-loop
-Inv-loop place self o₀ o = o ≤ 241
+Inv-loop places place o₀ o = o ≤ 241
 
 abbrev μ-loop : tie.MeasureT-loop
-μ-loop place self o₀ o = 241 - o
+μ-loop places place o₀ o = 241 - o
 
 loop-holds : tie.Need-loop-holds Inv-loop μ-loop
 loop-holds c = search needs
@@ -34,8 +34,8 @@ loop-again c = search needs
 returns-2 : tie.Need-returns-2 Inv-loop μ-loop
 returns-2 c = search needs
 
-pub at-spec : {M : Type 1} → statement M
-at-spec =
+pub lowest-spec : {M : Type 1} → statement M
+lowest-spec =
     tie.close
     (tie.spec
     Inv-loop

@@ -1,16 +1,16 @@
--- `twin::twin::Twin::count` is safe and ends: each turn of its loop counts one up to a fixed bound, and at most one object more. Assumes nothing.
+-- `twin::twin::of_kind` is safe and ends: each turn of its loop counts one up to a fixed bound, and at most one object more. Assumes nothing.
 use borrow.Author.Needs.{needs}
 use native.Mathlib.Omega.{arith}
 use mathlib.Core.Logic.{⊎-elim}
 use Prim.Native.Nat.{_≤_, _-_}
-use Rattle.twin.proofs.twin.Twin.count.Statement.{statement}
-use Rattle.twin.proofs.twin.Twin.count.Tie as tie
+use Rattle.twin.proofs.twin.of_kind.Statement.{statement}
+use Rattle.twin.proofs.twin.of_kind.Tie as tie
 
 abbrev Inv-loop : tie.InvT-loop
-Inv-loop kind self n₀ o₀ n o = (o ≤ 241) × (n ≤ o)
+Inv-loop places kind n₀ o₀ n o = (o ≤ 241) × (n ≤ o)
 
 abbrev μ-loop : tie.MeasureT-loop
-μ-loop kind self n₀ o₀ n o = 241 - o
+μ-loop places kind n₀ o₀ n o = 241 - o
 
 loop-holds : tie.Need-loop-holds Inv-loop μ-loop
 loop-holds c = search needs
@@ -36,8 +36,8 @@ loop-again c = ⊎-elim (λ w. omega arith) (λ w. omega arith) (c .if1 .came)
 returns : tie.Need-returns Inv-loop μ-loop
 returns c = search needs
 
-pub count-spec : {M : Type 1} → statement M
-count-spec =
+pub of-kind-spec : {M : Type 1} → statement M
+of-kind-spec =
     tie.close
     (tie.spec
     Inv-loop

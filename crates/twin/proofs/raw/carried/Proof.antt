@@ -1,16 +1,16 @@
--- `twin::raw::Raw::carried` is safe and ends: each turn of its loop counts one up to a fixed bound. Assumes nothing.
+-- `twin::raw::carried` is safe and ends: each turn of its loop counts one up to a fixed bound. Assumes nothing.
 use borrow.Author.Needs.{needs}
 use Prim.Native.Nat.{_≤_, _-_}
-use Rattle.twin.proofs.raw.Raw.carried.Statement.{statement}
-use Rattle.twin.proofs.raw.Raw.carried.Tie as tie
+use Rattle.twin.proofs.raw.carried.Statement.{statement}
+use Rattle.twin.proofs.raw.carried.Tie as tie
 use Rattle.twin.proofs.raw.again.Reads as again-reads
 use Rattle.twin.proofs.raw.scans.Reads as scans-reads
 
 abbrev Inv-loop : tie.InvT-loop
-Inv-loop object before self times₀ t₀ times t = t ≤ 8
+Inv-loop object before tasks times₀ t₀ times t = t ≤ 8
 
 abbrev μ-loop : tie.MeasureT-loop
-μ-loop object before self times₀ t₀ times t = 8 - t
+μ-loop object before tasks times₀ t₀ times t = 8 - t
 
 loop-holds : tie.Need-loop-holds Inv-loop μ-loop
 loop-holds c = search needs
@@ -18,8 +18,8 @@ loop-holds c = search needs
 mul-task : tie.Need-mul-task Inv-loop μ-loop
 mul-task c = search needs
 
-element-copy-out-task : tie.Need-element-copy-out-task Inv-loop μ-loop
-element-copy-out-task c = search needs
+array-copy-out-task : tie.Need-array-copy-out-task Inv-loop μ-loop
+array-copy-out-task c = search needs
 
 scans-requires : tie.Need-scans-requires Inv-loop μ-loop
 scans-requires c κs = search needs
@@ -47,7 +47,7 @@ carried-spec =
     μ-loop
     loop-holds
     mul-task
-    element-copy-out-task
+    array-copy-out-task
     scans-requires
     again-requires
     add-t
