@@ -3,7 +3,7 @@ use crate::dice;
 use twin::Order;
 use twin::Twin;
 
-pub const SCHEDULES: usize = 32;
+pub const SCHEDULES: usize = 512;
 
 // Sensible calls with a few rough ones, half rough ones, or wild bytes.
 pub const SENSIBLE: usize = 0;
@@ -62,22 +62,22 @@ pub fn plan(number: usize) -> Plan {
         let h = dice::pick(seed, 2, 6);
         let l = dice::pick(seed, 3, 18);
         let n = dice::pick(seed, 4, 256);
-        return sized(seed, style, t, h, l, n, 24);
+        return sized(seed, style, t, h, l, n, 16);
     }
     let k = number / 16 % 8;
     if k < 3 {
         let n = some(seed, 4, 4);
-        return sized(seed, style, some(seed, 1, 3), some(seed, 2, 2), some(seed, 3, 2), n, 72);
+        return sized(seed, style, some(seed, 1, 3), some(seed, 2, 2), some(seed, 3, 2), n, 32);
     }
     if k < 6 {
         let n = some(seed, 4, 10);
-        return sized(seed, style, some(seed, 1, 4), some(seed, 2, 4), some(seed, 3, 3), n, 96);
+        return sized(seed, style, some(seed, 1, 4), some(seed, 2, 4), some(seed, 3, 3), n, 40);
     }
     if k < 7 {
         let n = some(seed, 4, 240);
-        return sized(seed, style, some(seed, 1, 8), some(seed, 2, 4), some(seed, 3, 16), n, 128);
+        return sized(seed, style, some(seed, 1, 8), some(seed, 2, 4), some(seed, 3, 16), n, 56);
     }
-    sized(seed, style, 8, 4, 16, 240, 160)
+    sized(seed, style, 8, 4, 16, 240, 96)
 }
 
 fn go_on(thread: usize) -> Order {
@@ -98,33 +98,60 @@ fn some_tag(seed: usize) -> usize {
     }
 }
 
-// How often each operation is drawn for an idle thread.
-fn operation(seed: usize) -> usize {
-    match dice::pick(seed, 2, 16) {
+// How often each operation is drawn for an idle thread: with an object in hand it is put in a link or retired, with none one
+// is sought. Clear is rare, so that handovers stay full while their slots protect other objects.
+fn operation(seed: usize, full: bool) -> usize {
+    let k = dice::pick(seed, 2, 16);
+    if full {
+        return match k {
+            0 | 1 | 2 | 3 | 4 | 5 => 3,
+            6 | 7 | 8 | 9 | 10 | 11 => 5,
+            12 | 13 => 2,
+            14 => 4,
+            _ => 6,
+        };
+    }
+    match k {
         0 | 1 | 2 => 1,
-        3 | 4 | 5 | 6 => 2,
-        7 | 8 | 9 | 10 => 3,
-        11 => 4,
-        12 | 13 => 5,
+        3 | 4 | 5 | 6 | 7 | 8 => 2,
+        9 | 10 | 11 | 12 | 13 => 3,
+        14 => 4,
         _ => 6,
+    }
+}
+
+// What a call is drawn for: a thread, whether it is busy, whether its hand is full, and the sizes.
+struct Seen {
+    thread: usize,
+    busy: bool,
+    full: bool,
+    slots: usize,
+    links: usize,
+}
+
+fn seen(thread: usize, w: Twin) -> Seen {
+    Seen {
+        thread,
+        busy: w.busy(thread),
+        full: w.holds(thread),
+        slots: w.slots,
+        links: w.links,
     }
 }
 
 // A call that may well be accepted: a busy thread goes on, an idle one begins something. Low links are drawn more often, so
 // that threads meet there.
-fn sensible(seed: usize, w: Twin) -> Order {
-    let thread = dice::pick(seed, 0, w.threads);
-    let task = w.task_of(thread);
-    if task.doing != 0 && dice::pick(seed, 1, 16) != 0 {
-        return go_on(thread);
+fn sensible(seed: usize, s: Seen) -> Order {
+    if s.busy && dice::pick(seed, 1, 32) != 0 {
+        return go_on(s.thread);
     }
-    let op = operation(seed);
+    let op = operation(seed, s.full);
     let low = dice::pick(seed, 5, 2) == 0;
-    let link = if low { 0 } else { dice::pick(seed, 6, w.links) };
-    let slot = dice::pick(seed, 3, w.slots);
+    let link = if low { 0 } else { dice::pick(seed, 6, s.links) };
+    let slot = dice::pick(seed, 3, s.slots);
     let open = dice::pick(seed, 4, 3) == 0;
     Order {
-        thread,
+        thread: s.thread,
         operation: op,
         slot: if op == 1 || op == 5 {
             0
@@ -138,15 +165,43 @@ fn sensible(seed: usize, w: Twin) -> Order {
     }
 }
 
-// Up to six tries for a call that the twin accepts.
-fn accepted(seed: usize, w: Twin) -> Order {
-    for k in 0..6 {
-        let order = sensible(dice::mix(seed, k), w);
-        if w.refusal(order) == 0 {
+// A call that would do little: to protect an empty link, a swap that finds something else or moves nothing, to clear an
+// empty slot.
+fn dull(o: Order, full: bool, w: Twin) -> bool {
+    let op = o.operation;
+    if op == 2 {
+        return w.in_link(o.link) == 0;
+    }
+    if op == 6 {
+        return w.hazard_of(o.thread, o.slot) == 0;
+    }
+    if op == 3 {
+        if o.slot == 255 {
+            return !full || w.in_link(o.link) != 0;
+        }
+        return w.in_link(o.link) != w.hazard_of(o.thread, o.slot);
+    }
+    false
+}
+
+// Up to eight tries for a call that the twin accepts and that is seldom dull. One thread is tried first for some calls on end,
+// so that the others stand still in the middle of something.
+fn accepted(seed: usize, first: usize, w: Twin) -> Order {
+    for k in 0..8 {
+        let own = dice::mix(seed, k);
+        let any = dice::pick(own, 0, w.threads);
+        let stay = k < 4 && dice::pick(own, 7, 4) != 0;
+        let about = seen(if stay { first } else { any }, w);
+        let order = sensible(own, about);
+        if order.operation == 7 && about.busy {
+            return order;
+        }
+        let wanted = dice::pick(own, 8, 8) == 0 || !dull(order, about.full, w);
+        if wanted && w.refusal(order) == 0 {
             return order;
         }
     }
-    sensible(seed, w)
+    sensible(seed, seen(dice::pick(seed, 0, w.threads), w))
 }
 
 // In range, one past it, or 255.
@@ -187,13 +242,14 @@ fn wild(seed: usize) -> Order {
 // Call number `index` of a schedule.
 pub fn order(plan: Plan, index: usize, w: Twin) -> Order {
     let seed = dice::mix(plan.seed, index);
-    let k = dice::pick(seed, 40, 16);
+    let first = dice::pick(plan.seed, index / 8 + 1000, w.threads);
+    let k = dice::pick(seed, 40, 32);
     let style = plan.style;
     if style == WILD {
-        return if k < 12 { wild(seed) } else { rough(seed, w) };
+        return if k < 24 { wild(seed) } else { rough(seed, w) };
     }
     if style == ROUGH {
-        return if k < 8 { rough(seed, w) } else { accepted(seed, w) };
+        return if k < 16 { rough(seed, w) } else { accepted(seed, first, w) };
     }
-    if k == 0 { rough(seed, w) } else { accepted(seed, w) }
+    if k == 0 { rough(seed, w) } else { accepted(seed, first, w) }
 }

@@ -87,48 +87,28 @@ fn task_of(phase: Phase) -> Task {
 
 pub fn raw(s: State) -> Raw {
     let z = s.sizes;
+    let links = s.links;
+    let free = s.free;
+    let tags = s.tags;
     let mut r = twin::empty();
     r.threads = wide(z.threads);
     r.slots = wide(z.slots);
     r.links = wide(z.links);
     r.objects = wide(z.objects);
-    let linked = links_of(s, r);
-    let threaded = threads_of(s, linked);
-    let slotted = slots_of(s, threaded);
-    objects_of(s, slotted)
-}
-
-fn links_of(s: State, mut r: Raw) -> Raw {
-    for l in 0..16 {
-        r.link[l] = wide(s.links[l]);
-    }
-    r
-}
-
-fn threads_of(s: State, mut r: Raw) -> Raw {
+    r.link = links;
+    r.free = free;
+    r.tag = tags;
     for t in 0..8 {
         let thread = s.threads[t];
-        r.hand[t] = wide(thread.hand);
+        r.hand[t] = thread.hand;
         let phase = thread.phase;
         r.task[t] = task_of(phase);
     }
-    r
-}
-
-fn slots_of(s: State, mut r: Raw) -> Raw {
     for p in 0..32 {
         let slot = s.slots[p];
-        r.hazard[p] = wide(slot.hazard);
-        r.mark[p] = if slot.mark { 1 } else { 0 };
-        r.handover[p] = wide(slot.handover);
-    }
-    r
-}
-
-fn objects_of(s: State, mut r: Raw) -> Raw {
-    for i in 0..240 {
-        r.free[i] = if s.free[i] { 1 } else { 0 };
-        r.tag[i] = wide32(s.tags[i]);
+        r.hazard[p] = slot.hazard;
+        r.mark[p] = slot.mark;
+        r.handover[p] = slot.handover;
     }
     r
 }

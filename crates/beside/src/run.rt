@@ -5,17 +5,12 @@ use crate::draw::Plan;
 use crate::plain;
 use crate::totals;
 use crate::totals::Totals;
+use machine::Started;
 use machine::State;
-use twin::Order;
+use twin::Said;
+use twin::Stepped;
 use twin::Store;
 use twin::Twin;
-
-pub struct Run {
-    pub state: State,
-    pub twin: Twin,
-    pub store: Store,
-    pub totals: Totals,
-}
 
 pub struct Five {
     pub free: usize,
@@ -41,12 +36,13 @@ pub fn first_count(s: State) -> Five {
 }
 
 pub fn twin_count(w: Twin) -> Five {
+    let counts = w.counts();
     Five {
-        free: w.count(1),
-        links: w.count(2),
-        hands: w.count(3),
-        handovers: w.count(4),
-        carried: w.count(5),
+        free: plain::wide(counts[1]),
+        links: plain::wide(counts[2]),
+        hands: plain::wide(counts[3]),
+        handovers: plain::wide(counts[4]),
+        carried: plain::wide(counts[5]),
         refused: 0,
     }
 }
@@ -106,81 +102,78 @@ fn counted(totals: Totals, s: State, w: Twin, waiting: usize) -> Totals {
     totals.count(same_five(theirs, ours) && sums(theirs, w, waiting))
 }
 
-// One call to each, with every comparison.
-pub fn turn(run: Run, order: Order) -> Run {
-    let before = run.state;
-    let out = before.step(plain::call(order));
-    let answer = out.answer;
-    let state = out.state;
-    let said = plain::said(answer);
-    let w = run.twin;
-    let ours = w.step(order);
-    let mine = ours.said;
-    let twin = ours.twin;
-    let old = run.totals;
-    let seen = old.see(said.number).call(totals::same_said(said, mine));
-    let raw = plain::raw(state);
-    let states = seen.state(raw.same(twin.raw()));
-    let was = run.store;
-    let told = was.hear(order, said);
-    let store = told.store;
-    let listed = states.listing(told.listed, told.agrees);
-    let held = listed.holding(store.holds(raw));
-    let totals = counted(held, state, twin, store.waiting);
-    Run {
-        state,
-        twin,
-        store,
-        totals,
-    }
+// The answers to a call, and whether the store was told of it and gave the same.
+struct Heard {
+    theirs: Said,
+    ours: Said,
+    listed: bool,
+    agrees: bool,
 }
 
-fn begin(plan: Plan, totals: Totals) -> Run {
-    let began = machine::start(
+// Every comparison after a call.
+fn compared(before: Totals, heard: Heard, s: State, w: Twin, store: Store) -> Totals {
+    let theirs = heard.theirs;
+    let ours = heard.ours;
+    let seen = before.see(theirs.number).call(totals::same_said(theirs, ours));
+    let raw = plain::raw(s);
+    let states = seen.state(raw.same(w.raw()));
+    let listed = states.listing(heard.listed, heard.agrees);
+    let held = listed.holding(store.holds(raw));
+    counted(held, s, w, store.waiting)
+}
+
+pub fn machine_start(plan: Plan) -> Started {
+    machine::start(
         plain::byte(plan.threads),
         plain::byte(plan.slots),
         plain::byte(plan.links),
         plain::byte(plan.objects),
-    );
-    let verdict = plain::verdict(began.verdict);
-    let state = began.state;
-    let ours = twin::start(plan.threads, plan.slots, plan.links, plan.objects);
-    let mine = ours.said;
-    let twin = ours.twin;
-    let good = verdict == 0;
-    let seen = totals.see(verdict).start(good).call(verdict == mine.number);
-    let raw = plain::raw(state);
-    Run {
-        state,
-        twin,
-        store: twin::bare(plan.slots),
-        totals: seen.state(raw.same(twin.raw())),
-    }
+    )
 }
 
-// A changed state is judged half way and at the end.
+pub fn twin_start(plan: Plan) -> Stepped {
+    twin::start(plan.threads, plan.slots, plan.links, plan.objects)
+}
+
+fn compared_start(before: Totals, verdict: usize, mine: Said, s: State, w: Twin) -> Totals {
+    let seen = before.see(verdict).start(verdict == 0).call(verdict == mine.number);
+    let raw = plain::raw(s);
+    seen.state(raw.same(w.raw()))
+}
+
+// One schedule. Now and then a changed state is judged too.
 pub fn schedule(number: usize, totals: Totals) -> Totals {
     let plan = draw::plan(number);
-    let mut run = begin(plan, totals);
+    let began = machine_start(plan);
+    let verdict = began.verdict;
+    let ours = twin_start(plan);
+    let mut state = began.state;
+    let mut w = ours.twin;
+    let mut store = twin::bare(plan.slots);
+    let mut sum = compared_start(totals, plain::verdict(verdict), ours.said, state, w);
     for i in 0..256 {
         if i < plan.length {
-            let order = draw::order(plan, i, run.twin);
-            run = turn(run, order);
-            if i % 32 == 31 {
-                run = judge(run, plan, i);
+            let order = draw::order(plan, i, w);
+            let out = state.step(plain::call(order));
+            let answer = out.answer;
+            let theirs = plain::said(answer);
+            let mine = w.step(order);
+            let ours = mine.said;
+            let told = store.hear(order, theirs);
+            let heard = Heard {
+                theirs,
+                ours,
+                listed: told.listed,
+                agrees: told.agrees,
+            };
+            state = out.state;
+            w = mine.twin;
+            store = told.store;
+            sum = compared(sum, heard, state, w, store);
+            if i % 24 == 23 {
+                sum = change::judged(sum, plan, i, state);
             }
         }
     }
-    run.totals
-}
-
-fn judge(run: Run, plan: Plan, index: usize) -> Run {
-    let state = run.state;
-    let totals = change::judged(run.totals, plan, index, state);
-    Run {
-        state,
-        twin: run.twin,
-        store: run.store,
-        totals,
-    }
+    sum
 }

@@ -1,6 +1,7 @@
 // What is printed.
 use crate::draw;
 use crate::draw::Plan;
+use crate::plain;
 use crate::totals::Totals;
 use twin::Order;
 
@@ -25,7 +26,7 @@ fn seen(t: Totals, low: usize, high: usize) {
                 text(b" ");
                 number(k);
                 text(b":");
-                number(t.seen[k]);
+                number(plain::wide32(t.seen[k]));
             }
         }
     }

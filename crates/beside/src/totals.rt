@@ -3,7 +3,7 @@ use twin::Said;
 
 pub struct Totals {
     // How often each answer and refusal was given, by its number.
-    pub seen: [usize; 64],
+    pub seen: [u32; 64],
     pub started: usize,
     pub calls: usize,
     pub counts: usize,
@@ -43,7 +43,10 @@ pub fn same_said(a: Said, b: Said) -> bool {
 impl Totals {
     pub fn see(mut self, number: usize) -> Totals {
         if number < 64 {
-            self.seen[number] = up(self.seen[number]);
+            let n = self.seen[number];
+            if n < 1000000000 {
+                self.seen[number] = n + 1;
+            }
         }
         self
     }

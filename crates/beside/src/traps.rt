@@ -7,7 +7,6 @@ use crate::run;
 use crate::show;
 use crate::totals;
 use machine::State;
-use twin::Order;
 use twin::Said;
 use twin::Store;
 use twin::Twin;
@@ -19,64 +18,41 @@ pub struct Shown {
     pub call: usize,
 }
 
-// The first machine, the twin that draws the calls, and the twin in the trap.
-struct Pair {
-    state: State,
-    drawer: Twin,
-    trapped: Twin,
-    differ: bool,
+fn fresh(plan: Plan, trap: usize) -> Twin {
+    let ours = run::twin_start(plan);
+    let twin = ours.twin;
+    twin.in_trap(trap)
 }
 
-fn one(pair: Pair, order: Order) -> Pair {
-    let before = pair.state;
-    let out = before.step(plain::call(order));
-    let answer = out.answer;
-    let state = out.state;
-    let said = plain::said(answer);
-    let drawer = pair.drawer;
-    let drawn = drawer.step(order);
-    let trapped = pair.trapped;
-    let ours = trapped.step(order);
-    let mine = ours.said;
-    let next = drawn.twin;
-    let fell = ours.twin;
-    let counts = run::same_five(run::first_count(state), run::twin_count(fell));
-    let raw = plain::raw(state);
-    let same = totals::same_said(said, mine) && counts && raw.same_held(fell.raw());
-    Pair {
-        state,
-        drawer: next,
-        trapped: fell,
-        differ: !same,
+fn differ_now(s: State, said: Said, w: Twin, mine: Said) -> bool {
+    if !totals::same_said(said, mine) {
+        return true;
     }
-}
-
-fn started(plan: Plan, trap: usize) -> Pair {
-    let began = machine::start(
-        plain::byte(plan.threads),
-        plain::byte(plan.slots),
-        plain::byte(plan.links),
-        plain::byte(plan.objects),
-    );
-    let state = began.state;
-    let ours = twin::start(plan.threads, plan.slots, plan.links, plan.objects);
-    let drawer = ours.twin;
-    Pair {
-        state,
-        drawer,
-        trapped: drawer.in_trap(trap),
-        differ: false,
+    if !run::same_five(run::first_count(s), run::twin_count(w)) {
+        return true;
     }
+    let raw = plain::raw(s);
+    !raw.same_held(w.raw())
 }
 
-// The first call of a schedule after which the two differ, or 256.
+// The first call of a schedule after which the first machine and a twin in a trap differ, or 256. The calls are drawn for a
+// twin in no trap.
 fn differs_at(plan: Plan, trap: usize) -> usize {
-    let mut pair = started(plan, trap);
+    let began = run::machine_start(plan);
+    let mut state = began.state;
+    let mut drawer = fresh(plan, 0);
+    let mut trapped = fresh(plan, trap);
     for i in 0..256 {
         if i < plan.length {
-            let order = draw::order(plan, i, pair.drawer);
-            pair = one(pair, order);
-            if pair.differ {
+            let order = draw::order(plan, i, drawer);
+            let out = state.step(plain::call(order));
+            let answer = out.answer;
+            let drawn = drawer.step(order);
+            let ours = trapped.step(order);
+            state = out.state;
+            drawer = drawn.twin;
+            trapped = ours.twin;
+            if differ_now(state, plain::said(answer), trapped, ours.said) {
                 return i;
             }
         }
@@ -102,47 +78,18 @@ pub fn first_difference(trap: usize) -> Shown {
     }
 }
 
-// A twin in a trap beside the plain store.
-struct Alone {
-    trapped: Twin,
-    store: Store,
-    holds: bool,
-}
-
-fn alone(was: Alone, order: Order) -> Alone {
-    let trapped = was.trapped;
-    let ours = trapped.step(order);
-    let mine = ours.said;
-    let fell = ours.twin;
-    let store = was.store;
-    let told = store.hear(order, mine);
-    let next = told.store;
-    let holds = told.agrees && next.holds(fell.raw());
-    Alone {
-        trapped: fell,
-        store: next,
-        holds,
-    }
-}
-
-fn begin_alone(plan: Plan, trap: usize) -> Alone {
-    let ours = twin::start(plan.threads, plan.slots, plan.links, plan.objects);
-    let fresh = ours.twin;
-    Alone {
-        trapped: fresh.in_trap(trap),
-        store: twin::bare(plan.slots),
-        holds: true,
-    }
-}
-
-// The first call of a schedule, drawn for the trapped twin, after which it does not agree with the store, or 256.
+// The first call of a schedule, drawn for a twin in a trap, after which it does not agree with the plain store, or 256.
 fn loses_at(plan: Plan, trap: usize) -> usize {
-    let mut run = begin_alone(plan, trap);
+    let mut trapped = fresh(plan, trap);
+    let mut store = twin::bare(plan.slots);
     for i in 0..256 {
         if i < plan.length {
-            let order = draw::order(plan, i, run.trapped);
-            run = alone(run, order);
-            if !run.holds {
+            let order = draw::order(plan, i, trapped);
+            let ours = trapped.step(order);
+            let told = store.hear(order, ours.said);
+            trapped = ours.twin;
+            store = told.store;
+            if !told.agrees || !store.holds(trapped.raw()) {
                 return i;
             }
         }
@@ -211,12 +158,6 @@ fn answers(plan: Plan, w: Twin, last: usize, trap: usize) {
             }
         }
     }
-}
-
-fn fresh(plan: Plan, trap: usize) -> Twin {
-    let ours = twin::start(plan.threads, plan.slots, plan.links, plan.objects);
-    let twin = ours.twin;
-    twin.in_trap(trap)
 }
 
 fn found(s: Shown, drawing: usize) {

@@ -1,4 +1,5 @@
 // 01's table of calls: what is refused, in 01's order, and what operations 1 to 6 do.
+use crate::num;
 use crate::place;
 use crate::trap;
 use crate::twin;
@@ -30,65 +31,75 @@ fn untidy(o: Order) -> bool {
     o.tag != 0 && !uses_tag(o.operation)
 }
 
+// The refusals that do not depend on what the thread is doing, 21 to 25, or 0.
+fn misshapen(o: Order, threads: usize, slots: usize, links: usize) -> usize {
+    let op = o.operation;
+    if o.thread >= threads {
+        return 21;
+    }
+    if op < 1 || 7 < op {
+        return 22;
+    }
+    if untidy(o) {
+        return 23;
+    }
+    let wild = op == 3 && o.slot == 255;
+    if uses_slot(op) && o.slot >= slots && !wild {
+        return 24;
+    }
+    if uses_link(op) && o.link >= links {
+        return 25;
+    }
+    0
+}
+
+// Whether the call needs a protected slot: "swap with a slot, or read".
+fn needs_mark(o: Order) -> bool {
+    o.operation == 4 || (o.operation == 3 && o.slot != 255)
+}
+
+// The refusals of a call to an idle thread: 28, 29, 31, 30, or 0.
+fn unready(o: Order, hand: usize, marked: bool, free: usize) -> usize {
+    let op = o.operation;
+    if op == 1 && hand != 0 {
+        return 28;
+    }
+    if op == 5 && hand == 0 {
+        return 29;
+    }
+    if needs_mark(o) && !marked {
+        return 31;
+    }
+    if op == 1 && free == 0 {
+        return 30;
+    }
+    0
+}
+
 impl Twin {
-    // The refusals that do not depend on what the thread is doing, 21 to 25, or 0.
-    fn misshapen(self, o: Order) -> usize {
-        let op = o.operation;
-        if o.thread >= self.threads {
-            return 21;
-        }
-        if op < 1 || 7 < op {
-            return 22;
-        }
-        if untidy(o) {
-            return 23;
-        }
-        let wild = op == 3 && o.slot == 255;
-        if uses_slot(op) && o.slot >= self.slots && !wild {
-            return 24;
-        }
-        if uses_link(op) && o.link >= self.links {
-            return 25;
-        }
-        0
-    }
-
-    // The refusals of a call to an idle thread: 28, 29, 31, 30, or 0.
-    fn unready(self, o: Order) -> usize {
-        let op = o.operation;
-        let full = self.at(place::hand(o.thread)) != 0;
-        if op == 1 && full {
-            return 28;
-        }
-        if op == 5 && !full {
-            return 29;
-        }
-        let p = place::position(o.thread, self.slots, o.slot);
-        if op == 4 || (op == 3 && o.slot != 255) {
-            if !self.marked(p) {
-                return 31;
-            }
-        }
-        if op == 1 && self.at(place::FREE) == 0 {
-            return 30;
-        }
-        0
-    }
-
     // 01: "The first that applies is given, in this order, and never otherwise." 0 where the call is accepted.
     pub fn refusal(self, o: Order) -> usize {
-        let shape = self.misshapen(o);
+        let shape = misshapen(o, self.threads, self.slots, self.links);
         if shape != 0 {
             return shape;
         }
-        let task = self.task_of(o.thread);
+        let tasks = self.task;
+        let task = twin::task_at(tasks, o.thread);
         if o.operation == 7 {
             return if task.doing == twin::IDLE { 27 } else { 0 };
         }
         if task.doing != twin::IDLE {
             return 26;
         }
-        self.unready(o)
+        let n = self.objects;
+        let hand = place::lowest(&self.place, n, place::hand(o.thread));
+        let marked = num::flag(&self.mark, place::position(o.thread, self.slots, o.slot));
+        let free = if o.operation == 1 {
+            place::lowest(&self.place, n, place::FREE)
+        } else {
+            0
+        };
+        unready(o, hand, marked, free)
     }
 
     // One call: "Refusals of a call return a = b = 0 and the same state."
@@ -110,69 +121,76 @@ impl Twin {
         }
     }
 
-    fn take(self, t: usize, tag: usize) -> Stepped {
-        let object = self.at(place::FREE);
-        let held = self.put(object, place::hand(t));
-        let tagged = held.with_tag(object, tag);
-        twin::answer(tagged, 1, object, 0)
+    fn take(mut self, t: usize, tag: usize) -> Stepped {
+        let object = place::lowest(&self.place, self.objects, place::FREE);
+        place::put(&mut self.place, object, place::hand(t));
+        if object < 241 {
+            self.tag[object] = num::word(tag);
+        }
+        twin::answer(self, 1, object, 0)
     }
 
-    fn protect(self, t: usize, slot: usize, link: usize) -> Stepped {
-        let seen = self.at(place::link(link));
-        let task = Task {
-            doing: twin::LOADED,
-            slot,
-            link,
-            seen,
-            position: 0,
-        };
-        let next = self.with_task(t, task);
-        twin::answer(next, 2, seen, 0)
+    fn protect(mut self, t: usize, slot: usize, link: usize) -> Stepped {
+        let seen = place::lowest(&self.place, self.objects, place::link(link));
+        if t < 8 {
+            self.task[t] = Task {
+                doing: twin::LOADED,
+                slot,
+                link,
+                seen,
+                position: 0,
+            };
+        }
+        twin::answer(self, 2, seen, 0)
     }
 
-    fn swap(self, t: usize, slot: usize, link: usize) -> Stepped {
-        let there = self.at(place::link(link));
-        let wanted = if slot == 255 {
-            0
-        } else {
-            self.hazard_at(place::position(t, self.slots, slot))
-        };
+    fn swap(mut self, t: usize, slot: usize, link: usize) -> Stepped {
+        let n = self.objects;
+        let there = place::lowest(&self.place, n, place::link(link));
+        let held = num::at(&self.hazard, place::position(t, self.slots, slot));
+        let wanted = if slot == 255 { 0 } else { held };
         if there != wanted {
             return twin::answer(self, 7, 0, 0);
         }
-        let mine = self.at(place::hand(t));
-        let out = self.put(there, place::hand(t));
-        let both = out.put(mine, place::link(link));
-        twin::answer(both, 6, there, 0)
+        let mine = place::lowest(&self.place, n, place::hand(t));
+        place::put(&mut self.place, there, place::hand(t));
+        place::put(&mut self.place, mine, place::link(link));
+        twin::answer(self, 6, there, 0)
     }
 
     fn read(self, t: usize, slot: usize) -> Stepped {
-        let object = self.hazard_at(place::position(t, self.slots, slot));
-        let tag = self.tag_of(object);
+        let object = num::at(&self.hazard, place::position(t, self.slots, slot));
+        let tag = num::tag(&self.tag, object);
         twin::answer(self, 8, tag, 0)
     }
 
-    fn retire(self, t: usize) -> Stepped {
-        let object = self.at(place::hand(t));
-        let gone = self.put(object, place::carried(t));
-        let next = gone.with_task(t, twin::scanning(twin::LOOK, 0));
-        twin::answer(next, 2, object, 0)
+    fn retire(mut self, t: usize) -> Stepped {
+        let object = place::lowest(&self.place, self.objects, place::hand(t));
+        place::put(&mut self.place, object, place::carried(t));
+        if t < 8 {
+            self.task[t] = twin::scanning(twin::LOOK, 0);
+        }
+        twin::answer(self, 2, object, 0)
     }
 
-    fn clear(self, t: usize, slot: usize) -> Stepped {
+    fn clear(mut self, t: usize, slot: usize) -> Stepped {
         let p = place::position(t, self.slots, slot);
-        let drain = Task {
-            doing: twin::DRAINING,
-            slot,
-            link: 0,
-            seen: 0,
-            position: 0,
-        };
         if self.trap == trap::DRAIN_EARLY {
-            let early = self.put(self.at(place::handover(p)), place::carried(t));
-            return twin::answer(early.with_task(t, drain), 2, 0, 0);
+            let left = place::lowest(&self.place, self.objects, place::handover(p));
+            place::put(&mut self.place, left, place::carried(t));
+        } else if p < 32 {
+            self.hazard[p] = 0;
+            self.mark[p] = false;
         }
-        let zeroed = self.with_hazard(p, 0, false);
-        twin::answer(zeroed.with_task(t, drain), 2, 0, 0)
+        if t < 8 {
+            self.task[t] = Task {
+                doing: twin::DRAINING,
+                slot,
+                link: 0,
+                seen: 0,
+                position: 0,
+            };
+        }
+        twin::answer(self, 2, 0, 0)
     }
 }

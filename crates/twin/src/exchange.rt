@@ -1,4 +1,5 @@
 // From plain numbers to a twin, from a twin to plain numbers, and whether two states in plain numbers are the same.
+use crate::num;
 use crate::place;
 use crate::raw;
 use crate::raw::Raw;
@@ -23,7 +24,7 @@ impl Raw {
     fn free_into(self, mut w: Twin) -> Twin {
         for i in 0..240 {
             w.tag[i + 1] = self.tag[i];
-            if self.free[i] != 0 {
+            if self.free[i] {
                 w.place[i + 1] = place::FREE;
             }
         }
@@ -32,7 +33,7 @@ impl Raw {
 
     fn links_into(self, mut w: Twin) -> Twin {
         for l in 0..16 {
-            let object = self.link[l];
+            let object = num::wide(self.link[l]);
             if object < 241 {
                 w.place[object] = place::link(l);
             }
@@ -42,7 +43,7 @@ impl Raw {
 
     fn threads_into(self, mut w: Twin) -> Twin {
         for t in 0..8 {
-            let object = self.hand[t];
+            let object = num::wide(self.hand[t]);
             if object < 241 {
                 w.place[object] = place::hand(t);
             }
@@ -60,8 +61,8 @@ impl Raw {
     fn slots_into(self, mut w: Twin) -> Twin {
         for p in 0..32 {
             w.hazard[p] = self.hazard[p];
-            w.mark[p] = self.mark[p] != 0;
-            let object = self.handover[p];
+            w.mark[p] = self.mark[p];
+            let object = num::wide(self.handover[p]);
             if object < 241 {
                 w.place[object] = place::handover(p);
             }
@@ -96,52 +97,37 @@ impl Twin {
         r.slots = self.slots;
         r.links = self.links;
         r.objects = self.objects;
-        let slots = self.slots_out(r);
-        let tasks = self.tasks_out(slots);
-        self.objects_out(tasks)
-    }
-
-    fn slots_out(self, mut r: Raw) -> Raw {
-        for p in 0..32 {
-            r.hazard[p] = self.hazard[p];
-            r.mark[p] = if self.mark[p] { 1 } else { 0 };
-        }
-        r
-    }
-
-    fn tasks_out(self, mut r: Raw) -> Raw {
-        for t in 0..8 {
-            let task = self.task[t];
-            r.task[t] = task;
-        }
-        r
-    }
-
-    fn objects_out(self, mut r: Raw) -> Raw {
+        let hazards = self.hazard;
+        let marks = self.mark;
+        let tasks = self.task;
+        r.hazard = hazards;
+        r.mark = marks;
+        r.task = tasks;
         for i in 0..240 {
+            if self.objects <= i {
+                return r;
+            }
             r.tag[i] = self.tag[i + 1];
             let place = self.place[i + 1];
-            let kind = place / 100;
-            let which = place % 100;
+            let kind = place::kind(place);
+            let which = place::which(place);
             if kind == 1 {
-                r.free[i] = 1;
+                r.free[i] = true;
             } else if kind == 2 {
                 if which < 16 {
-                    r.link[which] = i + 1;
+                    r.link[which] = num::byte(i + 1);
                 }
             } else if kind == 3 {
                 if which < 8 {
-                    r.hand[which] = i + 1;
+                    r.hand[which] = num::byte(i + 1);
                 }
             } else if kind == 4 {
                 if which < 32 {
-                    r.handover[which] = i + 1;
+                    r.handover[which] = num::byte(i + 1);
                 }
             } else if kind == 5 {
                 if which < 8 {
-                    let task = self.task[which];
-                    let full = carrying(task, i + 1);
-                    r.task[which] = full;
+                    r.task[which] = carrying(tasks[which], i + 1);
                 }
             }
         }
@@ -159,7 +145,7 @@ fn carrying(task: Task, object: usize) -> Task {
     }
 }
 
-pub fn same(a: &[usize], b: &[usize]) -> bool {
+fn same(a: &[u8], b: &[u8]) -> bool {
     if a.len() != b.len() {
         return false;
     }
@@ -175,48 +161,67 @@ fn same_task(a: Task, b: Task) -> bool {
     a.doing == b.doing && a.slot == b.slot && a.link == b.link && a.seen == b.seen && a.position == b.position
 }
 
-impl Raw {
-    fn same_tasks(self, other: Raw) -> bool {
-        for t in 0..8 {
-            let mine = self.task[t];
-            let yours = other.task[t];
-            if !same_task(mine, yours) {
-                return false;
-            }
+fn same_tasks(a: [Task; 8], b: [Task; 8]) -> bool {
+    for t in 0..8 {
+        if !same_task(a[t], b[t]) {
+            return false;
         }
-        true
     }
+    true
+}
 
-    fn same_sizes(self, other: Raw) -> bool {
-        self.threads == other.threads && self.slots == other.slots && self.links == other.links && self.objects == other.objects
+fn same_tags<'a>(a: &'a [u32; 240], b: &'a [u32; 240]) -> bool {
+    for i in 0..240 {
+        if a[i] != b[i] {
+            return false;
+        }
     }
+    true
+}
 
+fn same_free<'a>(a: &'a [bool; 240], b: &'a [bool; 240]) -> bool {
+    for i in 0..240 {
+        if a[i] != b[i] {
+            return false;
+        }
+    }
+    true
+}
+
+// The same marks, and the same hazards under them.
+fn same_protected<'a>(a: &'a [u8; 32], b: &'a [u8; 32], am: &'a [bool; 32], bm: &'a [bool; 32]) -> bool {
+    for p in 0..32 {
+        if am[p] != bm[p] {
+            return false;
+        }
+        if am[p] && a[p] != b[p] {
+            return false;
+        }
+    }
+    true
+}
+
+impl Raw {
     // The same objects in links, hands and slots with the mark on.
     pub fn same_held(self, other: Raw) -> bool {
-        same(&self.link, &other.link) && same(&self.hand, &other.hand) && self.same_protected(other)
-    }
-
-    fn same_protected(self, other: Raw) -> bool {
-        for p in 0..32 {
-            if self.mark[p] != other.mark[p] {
-                return false;
-            }
-            if self.mark[p] != 0 && self.hazard[p] != other.hazard[p] {
-                return false;
-            }
-        }
-        true
+        same(&self.link, &other.link)
+            && same(&self.hand, &other.hand)
+            && same_protected(&self.hazard, &other.hazard, &self.mark, &other.mark)
     }
 
     pub fn same(self, other: Raw) -> bool {
-        self.same_sizes(other)
+        let mine = self.task;
+        let yours = other.task;
+        let sizes = self.threads == other.threads && self.slots == other.slots && self.links == other.links;
+        sizes
+            && self.objects == other.objects
             && same(&self.link, &other.link)
             && same(&self.hand, &other.hand)
             && same(&self.hazard, &other.hazard)
-            && same(&self.mark, &other.mark)
+            && same_protected(&self.hazard, &other.hazard, &self.mark, &other.mark)
             && same(&self.handover, &other.handover)
-            && same(&self.free, &other.free)
-            && same(&self.tag, &other.tag)
-            && self.same_tasks(other)
+            && same_free(&self.free, &other.free)
+            && same_tags(&self.tag, &other.tag)
+            && same_tasks(mine, yours)
     }
 }

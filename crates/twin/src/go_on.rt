@@ -1,4 +1,5 @@
 // 01's "Go on": one step of what a thread is in the middle of.
+use crate::num;
 use crate::place;
 use crate::trap;
 use crate::twin;
@@ -6,9 +7,29 @@ use crate::twin::Stepped;
 use crate::twin::Task;
 use crate::twin::Twin;
 
+// Whether a hazard after position p is the object.
+fn later(hazards: &[u8; 32], object: usize, p: usize) -> bool {
+    for q in 0..32 {
+        if p < q && num::wide(hazards[q]) == object {
+            return true;
+        }
+    }
+    false
+}
+
+// Whether a position is one of a thread's own.
+fn own(t: usize, slots: usize, p: usize) -> bool {
+    let first = place::position(t, slots, 0);
+    if first <= p {
+        return p - first < slots;
+    }
+    false
+}
+
 impl Twin {
     pub fn go_on(self, t: usize) -> Stepped {
-        let task = self.task_of(t);
+        let tasks = self.task;
+        let task = twin::task_at(tasks, t);
         let doing = task.doing;
         match doing {
             1 => self.publish(t, task),
@@ -20,126 +41,141 @@ impl Twin {
     }
 
     // "Loaded: store the object in the hazard, mark off, become Published."
-    fn publish(self, t: usize, task: Task) -> Stepped {
+    fn publish(mut self, t: usize, task: Task) -> Stepped {
         let p = place::position(t, self.slots, task.slot);
-        if self.trap == trap::MARK_EARLY {
-            let set = self.with_hazard(p, task.seen, task.seen != 0);
-            return set.protected(t, task.seen);
+        if p < 32 {
+            self.hazard[p] = num::byte(task.seen);
+            self.mark[p] = false;
         }
-        let next = Task {
-            doing: twin::PUBLISHED,
-            slot: task.slot,
-            link: task.link,
-            seen: 0,
-            position: 0,
-        };
-        let set = self.with_hazard(p, task.seen, false);
-        twin::answer(set.with_task(t, next), 3, 0, 0)
+        if self.trap == trap::MARK_EARLY {
+            return self.protected(t, p, task.seen);
+        }
+        if t < 8 {
+            self.task[t] = Task {
+                doing: twin::PUBLISHED,
+                slot: task.slot,
+                link: task.link,
+                seen: 0,
+                position: 0,
+            };
+        }
+        twin::answer(self, 3, 0, 0)
     }
 
-    fn protected(self, t: usize, object: usize) -> Stepped {
-        let done = self.with_task(t, twin::idle());
-        if object == 0 {
-            twin::answer(done, 5, 0, 0)
-        } else {
-            twin::answer(done, 4, object, self.tag_of(object))
+    // "Equal to the hazard and not 0: mark on, idle, 4 Protected (object, tag). Equal and 0: idle, 5 Nothing (0, 0)."
+    fn protected(mut self, t: usize, p: usize, object: usize) -> Stepped {
+        if t < 8 {
+            self.task[t] = twin::idle();
         }
+        if object == 0 {
+            return twin::answer(self, 5, 0, 0);
+        }
+        if p < 32 {
+            self.mark[p] = true;
+        }
+        let tag = num::tag(&self.tag, object);
+        twin::answer(self, 4, object, tag)
     }
 
     // "Published: read the link again."
-    fn read_again(self, t: usize, task: Task) -> Stepped {
+    fn read_again(mut self, t: usize, task: Task) -> Stepped {
         let p = place::position(t, self.slots, task.slot);
-        let there = self.at(place::link(task.link));
-        if there == self.hazard_at(p) {
-            let set = self.with_hazard(p, there, there != 0);
-            return set.protected(t, there);
+        let there = place::lowest(&self.place, self.objects, place::link(task.link));
+        if there == num::at(&self.hazard, p) {
+            return self.protected(t, p, there);
         }
-        let next = Task {
-            doing: twin::LOADED,
-            slot: task.slot,
-            link: task.link,
-            seen: there,
-            position: 0,
-        };
-        twin::answer(self.with_task(t, next), 3, 0, 0)
+        if t < 8 {
+            self.task[t] = Task {
+                doing: twin::LOADED,
+                slot: task.slot,
+                link: task.link,
+                seen: there,
+                position: 0,
+            };
+        }
+        twin::answer(self, 3, 0, 0)
     }
 
     // "Draining: take the handover and put 0 there."
-    fn drain(self, t: usize, task: Task) -> Stepped {
+    fn drain(mut self, t: usize, task: Task) -> Stepped {
         let p = place::position(t, self.slots, task.slot);
         let early = self.trap == trap::DRAIN_EARLY;
-        let after = if early { self.with_hazard(p, 0, false) } else { self };
-        let object = after.at(if early { place::carried(t) } else { place::handover(p) });
-        if object == 0 {
-            return twin::answer(after.with_task(t, twin::idle()), 9, 0, 0);
+        if early {
+            if p < 32 {
+                self.hazard[p] = 0;
+                self.mark[p] = false;
+            }
         }
-        let taken = after.put(object, place::carried(t));
-        twin::answer(taken.with_task(t, twin::scanning(twin::LOOK, p)), 3, 0, 0)
+        let from = if early { place::carried(t) } else { place::handover(p) };
+        let object = place::lowest(&self.place, self.objects, from);
+        if object == 0 {
+            return self.rest(t, 9, 0, 0);
+        }
+        place::put(&mut self.place, object, place::carried(t));
+        self.scan(t, twin::LOOK, p)
+    }
+
+    // Idle, with an answer.
+    fn rest(mut self, t: usize, number: usize, a: usize, b: usize) -> Stepped {
+        if t < 8 {
+            self.task[t] = twin::idle();
+        }
+        twin::answer(self, number, a, b)
+    }
+
+    // Look or Swap at a position, and 3.
+    fn scan(mut self, t: usize, doing: usize, p: usize) -> Stepped {
+        if t < 8 {
+            self.task[t] = twin::scanning(doing, p);
+        }
+        twin::answer(self, 3, 0, 0)
+    }
+
+    fn scan_on(self, t: usize, p: usize) -> Stepped {
+        if p < 32 {
+            self.scan(t, twin::LOOK, p + 1)
+        } else {
+            self.scan(t, twin::LOOK, 32)
+        }
     }
 
     // "Look": on to Swap, to the next position, or to freeing at the end.
     fn look(self, t: usize, p: usize) -> Stepped {
-        let object = self.at(place::carried(t));
-        if p >= self.positions() {
+        let object = place::lowest(&self.place, self.objects, place::carried(t));
+        if p >= place::position(self.threads, self.slots, 0) {
             return self.free(t, object);
         }
-        if self.matches(t, object, p) {
-            if self.trap == trap::FREE_AT_LAST && !self.later(object, p) {
-                return self.free(t, object);
-            }
-            return twin::answer(self.with_task(t, twin::scanning(twin::SWAP, p)), 3, 0, 0);
+        let blind = self.trap == trap::OTHERS_ONLY && own(t, self.slots, p);
+        if num::at(&self.hazard, p) != object || blind {
+            return self.scan_on(t, p);
         }
-        twin::answer(self.on_from(t, p), 3, 0, 0)
+        if self.trap == trap::FREE_AT_LAST && !later(&self.hazard, object, p) {
+            return self.free(t, object);
+        }
+        self.scan(t, twin::SWAP, p)
     }
 
-    fn matches(self, t: usize, object: usize, p: usize) -> bool {
-        if self.trap == trap::OTHERS_ONLY {
-            let first = place::position(t, self.slots, 0);
-            if first <= p {
-                if p - first < self.slots {
-                    return false;
-                }
-            }
+    fn free(mut self, t: usize, object: usize) -> Stepped {
+        place::put(&mut self.place, object, place::FREE);
+        if object < 241 {
+            self.tag[object] = 0;
         }
-        self.hazard_at(p) == object
-    }
-
-    // Whether a hazard after position p is the object.
-    fn later(self, object: usize, p: usize) -> bool {
-        for q in 0..32 {
-            if p < q && self.hazard[q] == object {
-                return true;
-            }
-        }
-        false
-    }
-
-    fn on_from(self, t: usize, p: usize) -> Twin {
-        if p < 32 {
-            self.with_task(t, twin::scanning(twin::LOOK, p + 1))
-        } else {
-            self
-        }
-    }
-
-    fn free(self, t: usize, object: usize) -> Stepped {
-        let gone = self.put(object, place::FREE);
-        let bare = gone.with_tag(object, 0);
-        twin::answer(bare.with_task(t, twin::idle()), 11, object, 0)
+        self.rest(t, 11, object, 0)
     }
 
     // "Swap: put the object in that handover."
-    fn hand_over(self, t: usize, p: usize) -> Stepped {
-        let object = self.at(place::carried(t));
-        let old = self.at(place::handover(p));
-        let left = self.put(object, place::handover(p));
+    fn hand_over(mut self, t: usize, p: usize) -> Stepped {
+        let n = self.objects;
+        let object = place::lowest(&self.place, n, place::carried(t));
+        let old = place::lowest(&self.place, n, place::handover(p));
+        place::put(&mut self.place, object, place::handover(p));
         if old == 0 {
-            return twin::answer(left.with_task(t, twin::idle()), 10, object, p);
+            return self.rest(t, 10, object, p);
         }
-        let taken = left.put(old, place::carried(t));
+        place::put(&mut self.place, old, place::carried(t));
         if self.trap == trap::MOVE_ON {
-            return twin::answer(taken.on_from(t, p), 3, 0, 0);
+            return self.scan_on(t, p);
         }
-        twin::answer(taken.with_task(t, twin::scanning(twin::LOOK, p)), 3, 0, 0)
+        self.scan(t, twin::LOOK, p)
     }
 }

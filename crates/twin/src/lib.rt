@@ -2,10 +2,11 @@
 //
 // It keeps one place for each object, where the first machine keeps one object for each place. So no object can be in two
 // places here, and what stands in a link or a hand is found by a search over the objects. A plain store that runs, and a
-// soundness check over plain numbers, stand beside it. Every number is a `usize`, tags included.
+// soundness check over plain numbers, stand beside it. Everything is worked out in `usize`.
 mod calls;
 mod exchange;
 mod go_on;
+mod num;
 mod place;
 mod raw;
 mod store;

@@ -1,5 +1,6 @@
 // 01's plain store: "It keeps links, hands and slots, and makes a new record at each take, never discarding one."
 // A record is the number of its take, from 1; 0 is no record. A schedule run beside it has at most 255 takes.
+use crate::num;
 use crate::place;
 use crate::raw::Raw;
 use crate::twin::Order;
@@ -9,14 +10,14 @@ use crate::twin::Said;
 // protect named, which is listed only when it ends. `waiting` is 01's "accepted retires less Freed answers".
 pub struct Store {
     pub slots: usize,
-    pub link: [usize; 16],
-    pub hand: [usize; 8],
-    pub slot: [usize; 32],
+    pub link: [u8; 16],
+    pub hand: [u8; 8],
+    pub slot: [u8; 32],
     pub takes: usize,
-    pub tag: [usize; 256],
-    pub last: [usize; 241],
-    pub slot_of: [usize; 8],
-    pub link_of: [usize; 8],
+    pub tag: [u32; 256],
+    pub last: [u8; 241],
+    pub slot_of: [u8; 8],
+    pub link_of: [u8; 8],
     pub waiting: usize,
 }
 
@@ -61,42 +62,42 @@ fn unlisted(store: Store) -> Told {
 impl Store {
     // The record that an object's number is read as.
     pub fn record(self, object: usize) -> usize {
-        if object < 241 { self.last[object] } else { 0 }
+        if object < 241 { num::wide(self.last[object]) } else { 0 }
     }
 
     fn tag_of(self, record: usize) -> usize {
-        if record < 256 { self.tag[record] } else { 0 }
+        if record < 256 { num::wide32(self.tag[record]) } else { 0 }
     }
 
     fn link_at(self, l: usize) -> usize {
-        if l < 16 { self.link[l] } else { 0 }
+        if l < 16 { num::wide(self.link[l]) } else { 0 }
     }
 
     fn hand_at(self, t: usize) -> usize {
-        if t < 8 { self.hand[t] } else { 0 }
+        if t < 8 { num::wide(self.hand[t]) } else { 0 }
     }
 
     fn slot_at(self, p: usize) -> usize {
-        if p < 32 { self.slot[p] } else { 0 }
+        if p < 32 { num::wide(self.slot[p]) } else { 0 }
     }
 
     fn with_link(mut self, l: usize, record: usize) -> Store {
         if l < 16 {
-            self.link[l] = record;
+            self.link[l] = num::byte(record);
         }
         self
     }
 
     fn with_hand(mut self, t: usize, record: usize) -> Store {
         if t < 8 {
-            self.hand[t] = record;
+            self.hand[t] = num::byte(record);
         }
         self
     }
 
     fn with_slot(mut self, p: usize, record: usize) -> Store {
         if p < 32 {
-            self.slot[p] = record;
+            self.slot[p] = num::byte(record);
         }
         self
     }
@@ -124,9 +125,9 @@ impl Store {
         let object = s.a;
         if record < 255 {
             self.takes = record + 1;
-            self.tag[record + 1] = o.tag;
+            self.tag[record + 1] = num::word(o.tag);
             if object < 241 {
-                self.last[object] = record + 1;
+                self.last[object] = num::byte(record + 1);
             }
             return heard(self.with_hand(o.thread, record + 1), s.number == 1);
         }
@@ -136,8 +137,8 @@ impl Store {
     fn begin(mut self, o: Order) -> Told {
         let t = o.thread;
         if t < 8 {
-            self.slot_of[t] = o.slot;
-            self.link_of[t] = o.link;
+            self.slot_of[t] = num::byte(o.slot);
+            self.link_of[t] = num::byte(o.link);
         }
         unlisted(self)
     }
@@ -191,7 +192,7 @@ impl Store {
         }
         if s.number == 4 || s.number == 5 {
             if t < 8 {
-                return self.protect(t, self.slot_of[t], self.link_of[t], s);
+                return self.protect(t, num::wide(self.slot_of[t]), num::wide(self.link_of[t]), s);
             }
         }
         unlisted(self)
@@ -211,36 +212,38 @@ impl Store {
 
     // "After every call, links, hands and slots with the mark on also hold the same records as the store's".
     pub fn holds(self, r: Raw) -> bool {
-        self.links_hold(r) && self.hands_hold(r) && self.slots_hold(r)
+        same_records(&self.link, &r.link, &self.last)
+            && same_records(&self.hand, &r.hand, &self.last)
+            && same_protected(&self.slot, &r.hazard, &r.mark, &self.last)
     }
+}
 
-    fn links_hold(self, r: Raw) -> bool {
-        for l in 0..16 {
-            let object = r.link[l];
-            if self.link[l] != self.record(object) {
+// Whether the objects in some places are those records, each "read as the take that last handed it out".
+fn same_records<'a>(records: &'a [u8], objects: &'a [u8], last: &'a [u8; 241]) -> bool {
+    if records.len() != objects.len() {
+        return false;
+    }
+    for i in 0..records.len() {
+        let object = num::wide(objects[i]);
+        if object < 241 {
+            if records[i] != last[object] {
                 return false;
             }
         }
-        true
     }
+    true
+}
 
-    fn hands_hold(self, r: Raw) -> bool {
-        for t in 0..8 {
-            let object = r.hand[t];
-            if self.hand[t] != self.record(object) {
-                return false;
+fn same_protected<'a>(records: &'a [u8; 32], hazards: &'a [u8; 32], marks: &'a [bool; 32], last: &'a [u8; 241]) -> bool {
+    for p in 0..32 {
+        let object = num::wide(hazards[p]);
+        if marks[p] {
+            if object < 241 {
+                if records[p] != last[object] {
+                    return false;
+                }
             }
         }
-        true
     }
-
-    fn slots_hold(self, r: Raw) -> bool {
-        for p in 0..32 {
-            let object = r.hazard[p];
-            if r.mark[p] != 0 && self.slot[p] != self.record(object) {
-                return false;
-            }
-        }
-        true
-    }
+    true
 }

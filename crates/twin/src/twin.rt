@@ -1,3 +1,4 @@
+use crate::num;
 use crate::place;
 
 pub const IDLE: usize = 0;
@@ -24,9 +25,9 @@ pub struct Twin {
     pub slots: usize,
     pub links: usize,
     pub objects: usize,
-    pub place: [usize; 241],
-    pub tag: [usize; 241],
-    pub hazard: [usize; 32],
+    pub place: [u8; 241],
+    pub tag: [u32; 241],
+    pub hazard: [u8; 32],
     pub mark: [bool; 32],
     pub task: [Task; 8],
 }
@@ -103,7 +104,8 @@ pub fn start(threads: usize, slots: usize, links: usize, objects: usize) -> Step
     if links < 1 || 16 < links || objects < 1 || 240 < objects {
         return answer(none, 20, 0, 0);
     }
-    let mut fresh = none.all_free(objects);
+    let mut fresh = none;
+    all_free(&mut fresh.place, objects);
     fresh.threads = threads;
     fresh.slots = slots;
     fresh.links = links;
@@ -111,109 +113,74 @@ pub fn start(threads: usize, slots: usize, links: usize, objects: usize) -> Step
     answer(fresh, 0, 0, 0)
 }
 
-fn lowest(places: &[usize; 241], place: usize) -> usize {
+// How many of n objects are in places of each kind.
+fn kinds(places: &[u8; 241], n: usize) -> [u8; 8] {
+    let mut counts = [0; 8];
     for o in 1..241 {
-        if places[o] == place {
-            return o;
+        if n < o {
+            return counts;
+        }
+        let kind = place::kind(places[o]);
+        if kind < 8 {
+            counts[kind] = more(counts[kind]);
         }
     }
-    0
+    counts
 }
 
-fn of_kind(places: &[usize; 241], kind: usize) -> usize {
-    let mut n = 0;
+fn more(n: u8) -> u8 {
+    if n < 255 { n + 1 } else { n }
+}
+
+fn all_free(places: &mut [u8; 241], objects: usize) {
     for o in 1..241 {
-        if places[o] / 100 == kind {
-            n += 1;
+        if o <= objects {
+            places[o] = place::FREE;
         }
     }
-    n
+}
+
+pub fn task_at(tasks: [Task; 8], t: usize) -> Task {
+    if t < 8 {
+        tasks[t]
+    } else {
+        idle()
+    }
 }
 
 impl Twin {
-    fn all_free(mut self, objects: usize) -> Twin {
-        for o in 1..241 {
-            if o <= objects {
-                self.place[o] = place::FREE;
-            }
-        }
-        self
-    }
-
     pub fn in_trap(mut self, trap: usize) -> Twin {
         self.trap = trap;
         self
     }
 
-    // The lowest-numbered object at a place, or 0.
-    pub fn at(self, place: usize) -> usize {
-        lowest(&self.place, place)
+    // How many objects are in places of each kind, by `place::kind`.
+    pub fn counts(self) -> [u8; 8] {
+        kinds(&self.place, self.objects)
     }
 
-    // How many objects are in places of one kind.
-    pub fn count(self, kind: usize) -> usize {
-        of_kind(&self.place, kind)
+    // Whether a thread's hand is full.
+    pub fn holds(self, t: usize) -> bool {
+        place::lowest(&self.place, self.objects, place::hand(t)) != 0
     }
 
-    pub fn put(mut self, object: usize, place: usize) -> Twin {
-        if 0 < object {
-            if object < 241 {
-                self.place[object] = place;
-            }
-        }
-        self
+    pub fn in_link(self, l: usize) -> usize {
+        place::lowest(&self.place, self.objects, place::link(l))
     }
 
-    pub fn tag_of(self, object: usize) -> usize {
-        if object < 241 { self.tag[object] } else { 0 }
+    pub fn hazard_of(self, t: usize, slot: usize) -> usize {
+        num::at(&self.hazard, place::position(t, self.slots, slot))
     }
 
-    pub fn with_tag(mut self, object: usize, tag: usize) -> Twin {
-        if object < 241 {
-            self.tag[object] = tag;
-        }
-        self
-    }
-
-    pub fn hazard_at(self, p: usize) -> usize {
-        if p < 32 { self.hazard[p] } else { 0 }
-    }
-
-    pub fn marked(self, p: usize) -> bool {
-        if p < 32 { self.mark[p] } else { false }
-    }
-
-    pub fn with_hazard(mut self, p: usize, object: usize, mark: bool) -> Twin {
-        if p < 32 {
-            self.hazard[p] = object;
-            self.mark[p] = mark;
-        }
-        self
-    }
-
-    pub fn task_of(self, t: usize) -> Task {
-        if t < 8 {
-            self.task[t]
-        } else {
-            idle()
-        }
-    }
-
-    pub fn with_task(mut self, t: usize, task: Task) -> Twin {
-        if t < 8 {
-            self.task[t] = task;
-        }
-        self
-    }
-
-    // T × H, the number of positions.
-    pub fn positions(self) -> usize {
-        place::position(self.threads, self.slots, 0)
+    pub fn busy(self, t: usize) -> bool {
+        let tasks = self.task;
+        let task = task_at(tasks, t);
+        task.doing != IDLE
     }
 
     // T × (H + 1), the most objects that can wait to be freed.
     pub fn bound(self) -> usize {
-        let all = self.positions();
+        let all = place::position(self.threads, self.slots, 0);
         let threads = self.threads;
         if threads < 9 {
             if all < 33 {

@@ -3,6 +3,7 @@ use borrow.Author.Needs.{needs}
 use Prim.Native.Nat.{_≤_, _-_}
 use Rattle.twin.proofs.raw.found.Statement.{statement}
 use Rattle.twin.proofs.raw.found.Tie as tie
+use Rattle.twin.proofs.num.wide.Reads as wide-reads
 use Rattle.twin.proofs.raw.again.Reads as again-reads
 
 abbrev Inv-loop : tie.InvT-loop
@@ -14,11 +15,11 @@ abbrev μ-loop : tie.MeasureT-loop
 loop-holds : tie.Need-loop-holds Inv-loop μ-loop
 loop-holds c = search needs
 
-mul-if1 : tie.Need-mul-if1 Inv-loop μ-loop
-mul-if1 c = search needs
+shared-slice-read-wide : tie.Need-shared-slice-read-wide Inv-loop μ-loop
+shared-slice-read-wide c = search needs
 
-shared-slice-read-if1 : tie.Need-shared-slice-read-if1 Inv-loop μ-loop
-shared-slice-read-if1 c = search needs
+wide-requires : tie.Need-wide-requires Inv-loop μ-loop
+wide-requires c κs = search needs
 
 again-requires : tie.Need-again-requires Inv-loop μ-loop
 again-requires c κs = search needs
@@ -42,8 +43,8 @@ found-spec =
     Inv-loop
     μ-loop
     loop-holds
-    mul-if1
-    shared-slice-read-if1
+    shared-slice-read-wide
+    wide-requires
     again-requires
     add-i
     loop-less

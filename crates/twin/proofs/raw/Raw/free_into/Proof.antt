@@ -28,17 +28,11 @@ mul-w-2 c = search needs
 element-write-w : tie.Need-element-write-w Inv-loop μ-loop
 element-write-w c = search needs
 
-mul-if1 : tie.Need-mul-if1 Inv-loop μ-loop
-mul-if1 c = search needs
-
 element-copy-out-if1 : tie.Need-element-copy-out-if1 Inv-loop μ-loop
 element-copy-out-if1 c = search needs
 
 add-w-2 : tie.Need-add-w-2 Inv-loop μ-loop
 add-w-2 c = search needs
-
-mul-w-3 : tie.Need-mul-w-3 Inv-loop μ-loop
-mul-w-3 c = search needs
 
 element-write-w-2 : tie.Need-element-write-w-2 Inv-loop μ-loop
 element-write-w-2 c = search needs
@@ -67,10 +61,8 @@ free-into-spec =
     add-w
     mul-w-2
     element-write-w
-    mul-if1
     element-copy-out-if1
     add-w-2
-    mul-w-3
     element-write-w-2
     add-i
     loop-less

@@ -3,6 +3,7 @@ use borrow.Author.Needs.{needs}
 use Prim.Native.Nat.{_≤_, _-_}
 use Rattle.twin.proofs.raw.Raw.links_into.Statement.{statement}
 use Rattle.twin.proofs.raw.Raw.links_into.Tie as tie
+use Rattle.twin.proofs.num.wide.Reads as wide-reads
 use Rattle.twin.proofs.place.link.Reads as link-reads
 
 abbrev Inv-loop : tie.InvT-loop
@@ -14,17 +15,14 @@ abbrev μ-loop : tie.MeasureT-loop
 loop-holds : tie.Need-loop-holds Inv-loop μ-loop
 loop-holds c = search needs
 
-mul-object : tie.Need-mul-object Inv-loop μ-loop
-mul-object c = search needs
+element-copy-out-wide : tie.Need-element-copy-out-wide Inv-loop μ-loop
+element-copy-out-wide c = search needs
 
-element-copy-out-object : tie.Need-element-copy-out-object Inv-loop μ-loop
-element-copy-out-object c = search needs
+wide-requires : tie.Need-wide-requires Inv-loop μ-loop
+wide-requires c κs = search needs
 
 link-requires : tie.Need-link-requires Inv-loop μ-loop
 link-requires c κs = search needs
-
-mul-w : tie.Need-mul-w Inv-loop μ-loop
-mul-w c = search needs
 
 element-write-w : tie.Need-element-write-w Inv-loop μ-loop
 element-write-w c = search needs
@@ -48,10 +46,9 @@ links-into-spec =
     Inv-loop
     μ-loop
     loop-holds
-    mul-object
-    element-copy-out-object
+    element-copy-out-wide
+    wide-requires
     link-requires
-    mul-w
     element-write-w
     add-l
     loop-less

@@ -3,6 +3,7 @@ use borrow.Author.Needs.{needs}
 use Prim.Native.Nat.{_≤_, _-_}
 use Rattle.twin.proofs.raw.Raw.slots_into.Statement.{statement}
 use Rattle.twin.proofs.raw.Raw.slots_into.Tie as tie
+use Rattle.twin.proofs.num.wide.Reads as wide-reads
 use Rattle.twin.proofs.place.handover.Reads as handover-reads
 
 abbrev Inv-loop : tie.InvT-loop
@@ -14,20 +15,11 @@ abbrev μ-loop : tie.MeasureT-loop
 loop-holds : tie.Need-loop-holds Inv-loop μ-loop
 loop-holds c = search needs
 
-mul-w : tie.Need-mul-w Inv-loop μ-loop
-mul-w c = search needs
-
 element-copy-out-w : tie.Need-element-copy-out-w Inv-loop μ-loop
 element-copy-out-w c = search needs
 
-mul-w-2 : tie.Need-mul-w-2 Inv-loop μ-loop
-mul-w-2 c = search needs
-
 element-write-w : tie.Need-element-write-w Inv-loop μ-loop
 element-write-w c = search needs
-
-mul-w-3 : tie.Need-mul-w-3 Inv-loop μ-loop
-mul-w-3 c = search needs
 
 element-copy-out-w-2 : tie.Need-element-copy-out-w-2 Inv-loop μ-loop
 element-copy-out-w-2 c = search needs
@@ -35,17 +27,14 @@ element-copy-out-w-2 c = search needs
 element-write-w-2 : tie.Need-element-write-w-2 Inv-loop μ-loop
 element-write-w-2 c = search needs
 
-mul-object : tie.Need-mul-object Inv-loop μ-loop
-mul-object c = search needs
+element-copy-out-wide : tie.Need-element-copy-out-wide Inv-loop μ-loop
+element-copy-out-wide c = search needs
 
-element-copy-out-object : tie.Need-element-copy-out-object Inv-loop μ-loop
-element-copy-out-object c = search needs
+wide-requires : tie.Need-wide-requires Inv-loop μ-loop
+wide-requires c κs = search needs
 
 handover-requires : tie.Need-handover-requires Inv-loop μ-loop
 handover-requires c κs = search needs
-
-mul-w-4 : tie.Need-mul-w-4 Inv-loop μ-loop
-mul-w-4 c = search needs
 
 element-write-w-3 : tie.Need-element-write-w-3 Inv-loop μ-loop
 element-write-w-3 c = search needs
@@ -69,17 +58,13 @@ slots-into-spec =
     Inv-loop
     μ-loop
     loop-holds
-    mul-w
     element-copy-out-w
-    mul-w-2
     element-write-w
-    mul-w-3
     element-copy-out-w-2
     element-write-w-2
-    mul-object
-    element-copy-out-object
+    element-copy-out-wide
+    wide-requires
     handover-requires
-    mul-w-4
     element-write-w-3
     add-p
     loop-less

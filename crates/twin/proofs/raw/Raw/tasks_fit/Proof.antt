@@ -3,13 +3,17 @@ use borrow.Author.Needs.{needs}
 use Prim.Native.Nat.{_≤_, _-_}
 use Rattle.twin.proofs.raw.Raw.tasks_fit.Statement.{statement}
 use Rattle.twin.proofs.raw.Raw.tasks_fit.Tie as tie
-use Rattle.twin.proofs.raw.Raw.task_fits.Reads as task-fits-reads
+use Rattle.twin.proofs.raw.Raw.positions.Reads as positions-reads
+use Rattle.twin.proofs.raw.task_fits.Reads as task-fits-reads
 
 abbrev Inv-loop : tie.InvT-loop
-Inv-loop self t₀ t = t ≤ 8
+Inv-loop self most t₀ t = t ≤ 8
 
 abbrev μ-loop : tie.MeasureT-loop
-μ-loop self t₀ t = 8 - t
+μ-loop self most t₀ t = 8 - t
+
+positions-requires : tie.Need-positions-requires Inv-loop μ-loop
+positions-requires c κs = search needs
 
 loop-holds : tie.Need-loop-holds Inv-loop μ-loop
 loop-holds c = search needs
@@ -47,6 +51,7 @@ tasks-fit-spec =
     (tie.spec
     Inv-loop
     μ-loop
+    positions-requires
     loop-holds
     mul-task
     element-copy-out-task

@@ -5,6 +5,7 @@ use Rattle.twin.proofs.raw.Raw.threads_into.Statement.{statement}
 use Rattle.twin.proofs.raw.Raw.threads_into.Tie as tie
 use Rattle.twin.proofs.exchange.carries.Reads as carries-reads
 use Rattle.twin.proofs.exchange.stripped.Reads as stripped-reads
+use Rattle.twin.proofs.num.wide.Reads as wide-reads
 use Rattle.twin.proofs.place.carried.Reads as carried-reads
 use Rattle.twin.proofs.place.hand.Reads as hand-reads
 
@@ -17,17 +18,14 @@ abbrev μ-loop : tie.MeasureT-loop
 loop-holds : tie.Need-loop-holds Inv-loop μ-loop
 loop-holds c = search needs
 
-mul-object : tie.Need-mul-object Inv-loop μ-loop
-mul-object c = search needs
+element-copy-out-wide : tie.Need-element-copy-out-wide Inv-loop μ-loop
+element-copy-out-wide c = search needs
 
-element-copy-out-object : tie.Need-element-copy-out-object Inv-loop μ-loop
-element-copy-out-object c = search needs
+wide-requires : tie.Need-wide-requires Inv-loop μ-loop
+wide-requires c κs = search needs
 
 hand-requires : tie.Need-hand-requires Inv-loop μ-loop
 hand-requires c κs = search needs
-
-mul-w : tie.Need-mul-w Inv-loop μ-loop
-mul-w c = search needs
 
 element-write-w : tie.Need-element-write-w Inv-loop μ-loop
 element-write-w c = search needs
@@ -53,9 +51,6 @@ carries-requires c κs = search needs
 carried-requires : tie.Need-carried-requires Inv-loop μ-loop
 carried-requires c κs = search needs
 
-mul-w-2 : tie.Need-mul-w-2 Inv-loop μ-loop
-mul-w-2 c = search needs
-
 element-write-w-2 : tie.Need-element-write-w-2 Inv-loop μ-loop
 element-write-w-2 c = search needs
 
@@ -78,10 +73,9 @@ threads-into-spec =
     Inv-loop
     μ-loop
     loop-holds
-    mul-object
-    element-copy-out-object
+    element-copy-out-wide
+    wide-requires
     hand-requires
-    mul-w
     element-write-w
     mul-task
     element-copy-out-task
@@ -90,7 +84,6 @@ threads-into-spec =
     element-set-from-bare
     carries-requires
     carried-requires
-    mul-w-2
     element-write-w-2
     add-t
     loop-less

@@ -1,26 +1,20 @@
--- `twin::raw::Raw::same_protected` is safe and ends: each turn of its loop counts one up to a fixed bound. Assumes nothing.
+-- `twin::exchange::same_protected` is safe and ends: each turn of its loop counts one up to a fixed bound. Assumes nothing.
 use borrow.Author.Needs.{needs}
 use Prim.Native.Nat.{_≤_, _-_}
-use Rattle.twin.proofs.raw.Raw.same_protected.Statement.{statement}
-use Rattle.twin.proofs.raw.Raw.same_protected.Tie as tie
+use Rattle.twin.proofs.exchange.same_protected.Statement.{statement}
+use Rattle.twin.proofs.exchange.same_protected.Tie as tie
 
 abbrev Inv-loop : tie.InvT-loop
-Inv-loop self other p₀ p = p ≤ 32
+Inv-loop a b am bm p₀ p = p ≤ 32
 
 abbrev μ-loop : tie.MeasureT-loop
-μ-loop self other p₀ p = 32 - p
+μ-loop a b am bm p₀ p = 32 - p
 
 loop-holds : tie.Need-loop-holds Inv-loop μ-loop
 loop-holds c = search needs
 
-mul-if1 : tie.Need-mul-if1 Inv-loop μ-loop
-mul-if1 c = search needs
-
 element-copy-out-if1 : tie.Need-element-copy-out-if1 Inv-loop μ-loop
 element-copy-out-if1 c = search needs
-
-mul-if1-2 : tie.Need-mul-if1-2 Inv-loop μ-loop
-mul-if1-2 c = search needs
 
 element-copy-out-if1-2 : tie.Need-element-copy-out-if1-2 Inv-loop μ-loop
 element-copy-out-if1-2 c = search needs
@@ -28,20 +22,11 @@ element-copy-out-if1-2 c = search needs
 returns : tie.Need-returns Inv-loop μ-loop
 returns c = search needs
 
-mul-if2 : tie.Need-mul-if2 Inv-loop μ-loop
-mul-if2 c = search needs
-
 element-copy-out-if2 : tie.Need-element-copy-out-if2 Inv-loop μ-loop
 element-copy-out-if2 c = search needs
 
-mul-if3 : tie.Need-mul-if3 Inv-loop μ-loop
-mul-if3 c = search needs
-
 element-copy-out-if3 : tie.Need-element-copy-out-if3 Inv-loop μ-loop
 element-copy-out-if3 c = search needs
-
-mul-if3-2 : tie.Need-mul-if3-2 Inv-loop μ-loop
-mul-if3-2 c = search needs
 
 element-copy-out-if3-2 : tie.Need-element-copy-out-if3-2 Inv-loop μ-loop
 element-copy-out-if3-2 c = search needs
@@ -68,16 +53,11 @@ same-protected-spec =
     Inv-loop
     μ-loop
     loop-holds
-    mul-if1
     element-copy-out-if1
-    mul-if1-2
     element-copy-out-if1-2
     returns
-    mul-if2
     element-copy-out-if2
-    mul-if3
     element-copy-out-if3
-    mul-if3-2
     element-copy-out-if3-2
     returns-2
     add-p

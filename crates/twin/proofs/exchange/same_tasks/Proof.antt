@@ -1,30 +1,30 @@
--- `twin::raw::Raw::same_tasks` is safe and ends: each turn of its loop counts one up to a fixed bound. Assumes nothing.
+-- `twin::exchange::same_tasks` is safe and ends: each turn of its loop counts one up to a fixed bound. Assumes nothing.
 use borrow.Author.Needs.{needs}
 use Prim.Native.Nat.{_≤_, _-_}
-use Rattle.twin.proofs.raw.Raw.same_tasks.Statement.{statement}
-use Rattle.twin.proofs.raw.Raw.same_tasks.Tie as tie
+use Rattle.twin.proofs.exchange.same_tasks.Statement.{statement}
+use Rattle.twin.proofs.exchange.same_tasks.Tie as tie
 use Rattle.twin.proofs.exchange.same_task.Reads as same-task-reads
 
 abbrev Inv-loop : tie.InvT-loop
-Inv-loop self other t₀ t = t ≤ 8
+Inv-loop a b t₀ t = t ≤ 8
 
 abbrev μ-loop : tie.MeasureT-loop
-μ-loop self other t₀ t = 8 - t
+μ-loop a b t₀ t = 8 - t
 
 loop-holds : tie.Need-loop-holds Inv-loop μ-loop
 loop-holds c = search needs
 
-mul-mine : tie.Need-mul-mine Inv-loop μ-loop
-mul-mine c = search needs
+mul-same-task : tie.Need-mul-same-task Inv-loop μ-loop
+mul-same-task c = search needs
 
-element-copy-out-mine : tie.Need-element-copy-out-mine Inv-loop μ-loop
-element-copy-out-mine c = search needs
+array-copy-out-same-task : tie.Need-array-copy-out-same-task Inv-loop μ-loop
+array-copy-out-same-task c = search needs
 
-mul-yours : tie.Need-mul-yours Inv-loop μ-loop
-mul-yours c = search needs
+mul-same-task-2 : tie.Need-mul-same-task-2 Inv-loop μ-loop
+mul-same-task-2 c = search needs
 
-element-copy-out-yours : tie.Need-element-copy-out-yours Inv-loop μ-loop
-element-copy-out-yours c = search needs
+array-copy-out-same-task-2 : tie.Need-array-copy-out-same-task-2 Inv-loop μ-loop
+array-copy-out-same-task-2 c = search needs
 
 same-task-requires : tie.Need-same-task-requires Inv-loop μ-loop
 same-task-requires c κs = search needs
@@ -51,10 +51,10 @@ same-tasks-spec =
     Inv-loop
     μ-loop
     loop-holds
-    mul-mine
-    element-copy-out-mine
-    mul-yours
-    element-copy-out-yours
+    mul-same-task
+    array-copy-out-same-task
+    mul-same-task-2
+    array-copy-out-same-task-2
     same-task-requires
     returns
     add-t
