@@ -34,6 +34,18 @@ fn index(seed: usize, k: usize, size: usize, most: usize) -> usize {
     dice::pick(seed, k, size)
 }
 
+// T × H, where H is at most 4.
+fn positions(threads: u8, slots: u8) -> usize {
+    let t = plain::wide(threads) % 256;
+    match slots {
+        0 => 0,
+        1 => t,
+        2 => t + t,
+        3 => t + t + t,
+        _ => t + t + t + t,
+    }
+}
+
 fn change_link(seed: usize, mut s: State) -> State {
     let z = s.sizes;
     let l = index(seed, 1, plain::wide(z.links), 16);
@@ -66,7 +78,7 @@ fn change_thread(seed: usize, mut s: State) -> State {
 
 fn change_slot(seed: usize, mut s: State) -> State {
     let z = s.sizes;
-    let p = index(seed, 1, plain::wide(z.slots) * plain::wide(z.threads), 32);
+    let p = index(seed, 1, positions(z.threads, z.slots), 32);
     let n = plain::wide(z.objects);
     let k = dice::pick(seed, 2, 8);
     if p < 32 {
@@ -120,17 +132,19 @@ fn move_free(seed: usize, mut s: State) -> State {
 fn move_link(seed: usize, mut s: State) -> State {
     let z = s.sizes;
     let l = dice::pick(seed, 1, plain::wide(z.links));
-    let p = dice::pick(seed, 2, plain::wide(z.slots) * plain::wide(z.threads));
-    if l < 16 && p < 32 {
-        let old = s.slots[p];
-        let object = s.links[l];
-        if old.handover == 0 {
-            s.links[l] = 0;
-            s.slots[p] = Slot {
-                hazard: old.hazard,
-                mark: old.mark,
-                handover: object,
-            };
+    let p = dice::pick(seed, 2, positions(z.threads, z.slots));
+    if l < 16 {
+        if p < 32 {
+            let old = s.slots[p];
+            let object = s.links[l];
+            if old.handover == 0 {
+                s.links[l] = 0;
+                s.slots[p] = Slot {
+                    hazard: old.hazard,
+                    mark: old.mark,
+                    handover: object,
+                };
+            }
         }
     }
     s

@@ -3,7 +3,7 @@ use crate::dice;
 use twin::Order;
 use twin::Twin;
 
-pub const SCHEDULES: usize = 512;
+pub const SCHEDULES: usize = 20480;
 
 // Sensible calls with a few rough ones, half rough ones, or wild bytes.
 pub const SENSIBLE: usize = 0;
@@ -54,7 +54,7 @@ fn sized(seed: usize, style: usize, t: usize, h: usize, l: usize, n: usize, leng
 }
 
 // The smallest sizes, where calls meet often; small ones; any; the largest; and, of wild schedules, one half with any bytes.
-pub fn plan(number: usize) -> Plan {
+pub fn planned(number: usize) -> Plan {
     let seed = dice::mix(20250, number);
     let style = style_of(number);
     if style == WILD && number % 2 == 0 {
@@ -129,7 +129,7 @@ struct Seen {
     links: usize,
 }
 
-fn seen(thread: usize, w: Twin) -> Seen {
+fn look_at(thread: usize, w: Twin) -> Seen {
     Seen {
         thread,
         busy: w.busy(thread),
@@ -191,7 +191,7 @@ fn accepted(seed: usize, first: usize, w: Twin) -> Order {
         let own = dice::mix(seed, k);
         let any = dice::pick(own, 0, w.threads);
         let stay = k < 4 && dice::pick(own, 7, 4) != 0;
-        let about = seen(if stay { first } else { any }, w);
+        let about = look_at(if stay { first } else { any }, w);
         let order = sensible(own, about);
         if order.operation == 7 && about.busy {
             return order;
@@ -201,7 +201,7 @@ fn accepted(seed: usize, first: usize, w: Twin) -> Order {
             return order;
         }
     }
-    sensible(seed, seen(dice::pick(seed, 0, w.threads), w))
+    sensible(seed, look_at(dice::pick(seed, 0, w.threads), w))
 }
 
 // In range, one past it, or 255.

@@ -143,7 +143,7 @@ fn compared_start(before: Totals, verdict: usize, mine: Said, s: State, w: Twin)
 
 // One schedule. Now and then a changed state is judged too.
 pub fn schedule(number: usize, totals: Totals) -> Totals {
-    let plan = draw::plan(number);
+    let plan = draw::planned(number);
     let began = machine_start(plan);
     let verdict = began.verdict;
     let ours = twin_start(plan);

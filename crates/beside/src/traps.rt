@@ -62,7 +62,7 @@ fn differs_at(plan: Plan, trap: usize) -> usize {
 
 pub fn first_difference(trap: usize) -> Shown {
     for n in 0..draw::SCHEDULES {
-        let call = differs_at(draw::plan(n), trap);
+        let call = differs_at(draw::planned(n), trap);
         if call < 256 {
             return Shown {
                 there: true,
@@ -99,7 +99,7 @@ fn loses_at(plan: Plan, trap: usize) -> usize {
 
 pub fn first_loss(trap: usize) -> Shown {
     for n in 0..draw::SCHEDULES {
-        let call = loses_at(draw::plan(n), trap);
+        let call = loses_at(draw::planned(n), trap);
         if call < 256 {
             return Shown {
                 there: true,
@@ -165,7 +165,7 @@ fn found(s: Shown, drawing: usize) {
         show::text(b"no schedule\n");
         return;
     }
-    let plan = draw::plan(s.schedule);
+    let plan = draw::planned(s.schedule);
     show::text(b"schedule ");
     show::number(s.schedule);
     show::text(b", sizes ");
@@ -179,7 +179,7 @@ fn differ(trap: usize) {
     show::text(b"  the machines differ after ");
     found(s, 0);
     if s.there {
-        let plan = draw::plan(s.schedule);
+        let plan = draw::planned(s.schedule);
         answers(plan, fresh(plan, 0), s.call, trap);
     }
 }
