@@ -52,7 +52,11 @@ fn change_link(seed: usize, mut s: State) -> State {
     let object = dice::pick(seed, 2, 242);
     let near = dice::pick(seed, 3, plain::wide(z.objects));
     if l < 16 {
-        s.links[l] = plain::byte(if dice::pick(seed, 4, 4) == 0 { object } else { near });
+        s.links[l] = plain::byte(if dice::pick(seed, 4, 4) == 0 {
+            object
+        } else {
+            near
+        });
     }
     s
 }
@@ -66,7 +70,11 @@ fn change_thread(seed: usize, mut s: State) -> State {
         let was = old.phase;
         let next = phase(seed, plain::wide(z.slots), plain::wide(z.links), n);
         let only_hand = dice::pick(seed, 5, 4) == 0;
-        let hand = if only_hand { plain::byte(dice::pick(seed, 6, n)) } else { old.hand };
+        let hand = if only_hand {
+            plain::byte(dice::pick(seed, 6, n))
+        } else {
+            old.hand
+        };
         if only_hand {
             s.threads[t] = Thread { hand, phase: was };
         } else {
@@ -93,7 +101,11 @@ fn change_slot(seed: usize, mut s: State) -> State {
             } else {
                 old.hazard
             },
-            mark: if k == 4 || k == 5 { !old.mark } else { old.mark },
+            mark: if k == 4 || k == 5 {
+                !old.mark
+            } else {
+                old.mark
+            },
             handover: if k == 6 { close } else { old.handover },
         };
     }
@@ -221,9 +233,11 @@ pub fn judged(before: Totals, plan: Plan, index: usize, reached: State) -> Total
         let ours = w.step(order);
         let after = ours.twin;
         let mine = ours.said;
-        let ended = seen.call(totals::same_said(said, mine)).state(next.same(after.raw()));
+        let ended = seen.call(totals::same_said(said, mine))
+            .state(next.same(after.raw()));
         return ended.count(run::same_five(five, run::twin_count(w)));
     }
-    let refused = seen.call(said.number == 19 && said.a == 0 && said.b == 0).state(next.same(raw));
+    let refused = seen.call(said.number == 19 && said.a == 0 && said.b == 0)
+        .state(next.same(raw));
     refused.count(run::same_five(five, run::none_counted()))
 }

@@ -7,8 +7,12 @@ pub const SCHEDULES: usize = 20480;
 
 // Sensible calls with a few rough ones, half rough ones, or wild bytes.
 pub const SENSIBLE: usize = 0;
+
 pub const ROUGH: usize = 1;
+
 pub const WILD: usize = 2;
+// Sensible calls, one thread for many on end.
+pub const LOYAL: usize = 3;
 
 pub struct Plan {
     pub seed: usize,
@@ -67,17 +71,47 @@ pub fn planned(number: usize) -> Plan {
     let k = number / 16 % 8;
     if k < 3 {
         let n = some(seed, 4, 4);
-        return sized(seed, style, some(seed, 1, 3), some(seed, 2, 2), some(seed, 3, 2), n, 32);
+        return sized(
+            seed,
+            style,
+            some(seed, 1, 3),
+            some(seed, 2, 2),
+            some(seed, 3, 2),
+            n,
+            32,
+        );
     }
     if k < 6 {
         let n = some(seed, 4, 10);
-        return sized(seed, style, some(seed, 1, 4), some(seed, 2, 4), some(seed, 3, 3), n, 40);
+        return sized(
+            seed,
+            style,
+            some(seed, 1, 4),
+            some(seed, 2, 4),
+            some(seed, 3, 3),
+            n,
+            40,
+        );
     }
     if k < 7 {
         let n = some(seed, 4, 240);
-        return sized(seed, style, some(seed, 1, 8), some(seed, 2, 4), some(seed, 3, 16), n, 56);
+        return sized(
+            seed,
+            style,
+            some(seed, 1, 8),
+            some(seed, 2, 4),
+            some(seed, 3, 16),
+            n,
+            56,
+        );
     }
     sized(seed, style, 8, 4, 16, 240, 96)
+}
+
+// Two threads with a slot each that meet on two links, where one stands still while the other does much.
+pub fn meeting(number: usize) -> Plan {
+    let seed = dice::mix(20251, number);
+    sized(seed, LOYAL, 2, 1, 2, 3, 64)
 }
 
 fn go_on(thread: usize) -> Order {
@@ -186,11 +220,11 @@ fn dull(o: Order, full: bool, w: Twin) -> bool {
 
 // Up to eight tries for a call that the twin accepts and that is seldom dull. One thread is tried first for some calls on end,
 // so that the others stand still in the middle of something.
-fn accepted(seed: usize, first: usize, w: Twin) -> Order {
+fn accepted(seed: usize, first: usize, loyal: bool, w: Twin) -> Order {
     for k in 0..8 {
         let own = dice::mix(seed, k);
         let any = dice::pick(own, 0, w.threads);
-        let stay = k < 4 && dice::pick(own, 7, 4) != 0;
+        let stay = k < 4 && (loyal || dice::pick(own, 7, 4) != 0);
         let about = look_at(if stay { first } else { any }, w);
         let order = sensible(own, about);
         if order.operation == 7 && about.busy {
@@ -245,11 +279,23 @@ pub fn order(plan: Plan, index: usize, w: Twin) -> Order {
     let first = dice::pick(plan.seed, index / 8 + 1000, w.threads);
     let k = dice::pick(seed, 40, 32);
     let style = plan.style;
+    if style == LOYAL {
+        let own = dice::pick(plan.seed, index / 12 + 1000, w.threads);
+        return accepted(seed, own, true, w);
+    }
     if style == WILD {
         return if k < 24 { wild(seed) } else { rough(seed, w) };
     }
     if style == ROUGH {
-        return if k < 16 { rough(seed, w) } else { accepted(seed, first, w) };
+        return if k < 16 {
+            rough(seed, w)
+        } else {
+            accepted(seed, first, false, w)
+        };
     }
-    if k == 0 { rough(seed, w) } else { accepted(seed, first, w) }
+    if k == 0 {
+        rough(seed, w)
+    } else {
+        accepted(seed, first, false, w)
+    }
 }

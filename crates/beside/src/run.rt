@@ -114,7 +114,9 @@ struct Heard {
 fn compared(before: Totals, heard: Heard, s: State, w: Twin, store: Store) -> Totals {
     let theirs = heard.theirs;
     let ours = heard.ours;
-    let seen = before.see(theirs.number).call(totals::same_said(theirs, ours));
+    let seen = before
+        .see(theirs.number)
+        .call(totals::same_said(theirs, ours));
     let raw = plain::raw(s);
     let states = seen.state(raw.same(w.raw()));
     let listed = states.listing(heard.listed, heard.agrees);
@@ -136,7 +138,10 @@ pub fn twin_start(plan: Plan) -> Stepped {
 }
 
 fn compared_start(before: Totals, verdict: usize, mine: Said, s: State, w: Twin) -> Totals {
-    let seen = before.see(verdict).start(verdict == 0).call(verdict == mine.number);
+    let seen = before
+        .see(verdict)
+        .start(verdict == 0)
+        .call(verdict == mine.number);
     let raw = plain::raw(s);
     seen.state(raw.same(w.raw()))
 }

@@ -1,12 +1,11 @@
-// 01's traps, one at a time in the twin: the first schedule whose answers, counts or holdings then differ from the first
-// machine's, and the first in which the twin no longer holds what the plain store holds.
+// 01's traps, one at a time in the twin: the first schedule that it then answers differently from the first machine, and the
+// first, of two threads that meet, in which it no longer holds or answers what the plain store does.
 use crate::draw;
 use crate::draw::Plan;
 use crate::plain;
 use crate::run;
 use crate::show;
 use crate::totals;
-use machine::State;
 use twin::Said;
 use twin::Store;
 use twin::Twin;
@@ -24,19 +23,8 @@ fn fresh(plan: Plan, trap: usize) -> Twin {
     twin.in_trap(trap)
 }
 
-fn differ_now(s: State, said: Said, w: Twin, mine: Said) -> bool {
-    if !totals::same_said(said, mine) {
-        return true;
-    }
-    if !run::same_five(run::first_count(s), run::twin_count(w)) {
-        return true;
-    }
-    let raw = plain::raw(s);
-    !raw.same_held(w.raw())
-}
-
-// The first call of a schedule after which the first machine and a twin in a trap differ, or 256. The calls are drawn for a
-// twin in no trap.
+// The first call of a schedule that the first machine and a twin in a trap answer differently, or 256. The calls are drawn
+// for a twin in no trap.
 fn differs_at(plan: Plan, trap: usize) -> usize {
     let began = run::machine_start(plan);
     let mut state = began.state;
@@ -52,7 +40,7 @@ fn differs_at(plan: Plan, trap: usize) -> usize {
             state = out.state;
             drawer = drawn.twin;
             trapped = ours.twin;
-            if differ_now(state, plain::said(answer), trapped, ours.said) {
+            if !totals::same_said(plain::said(answer), ours.said) {
                 return i;
             }
         }
@@ -99,7 +87,7 @@ fn loses_at(plan: Plan, trap: usize) -> usize {
 
 pub fn first_loss(trap: usize) -> Shown {
     for n in 0..draw::SCHEDULES {
-        let call = loses_at(draw::planned(n), trap);
+        let call = loses_at(draw::meeting(n), trap);
         if call < 256 {
             return Shown {
                 there: true,
@@ -160,13 +148,7 @@ fn answers(plan: Plan, w: Twin, last: usize, trap: usize) {
     }
 }
 
-fn found(s: Shown, drawing: usize) {
-    if !s.there {
-        show::text(b"no schedule\n");
-        return;
-    }
-    let plan = draw::planned(s.schedule);
-    show::text(b"schedule ");
+fn found(plan: Plan, s: Shown, drawing: usize) {
     show::number(s.schedule);
     show::text(b", sizes ");
     show::sizes(plan);
@@ -176,17 +158,24 @@ fn found(s: Shown, drawing: usize) {
 
 fn differ(trap: usize) {
     let s = first_difference(trap);
-    show::text(b"  the machines differ after ");
-    found(s, 0);
-    if s.there {
-        let plan = draw::planned(s.schedule);
-        answers(plan, fresh(plan, 0), s.call, trap);
+    if !s.there {
+        show::text(b"  the machines answer the same\n");
+        return;
     }
+    let plan = draw::planned(s.schedule);
+    show::text(b"  the machines differ at the end of schedule ");
+    found(plan, s, 0);
+    answers(plan, fresh(plan, 0), s.call, trap);
 }
 
 fn lose(trap: usize) {
-    show::text(b"  the plain store is left after ");
-    found(first_loss(trap), trap);
+    let s = first_loss(trap);
+    if !s.there {
+        show::text(b"  the plain store is kept to\n");
+        return;
+    }
+    show::text(b"  the plain store is left at the end of meeting ");
+    found(draw::meeting(s.schedule), s, trap);
 }
 
 // Nothing is lost by an early drain, which only leaves an object behind, so that trap is not held to the store.

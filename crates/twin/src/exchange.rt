@@ -72,7 +72,7 @@ impl Raw {
 }
 
 // The object that a task of a state in plain numbers carries, or 0.
-pub fn carries(task: Task) -> usize {
+fn carries(task: Task) -> usize {
     if task.doing == twin::LOOK || task.doing == twin::SWAP {
         task.seen
     } else {
@@ -158,7 +158,11 @@ fn same(a: &[u8], b: &[u8]) -> bool {
 }
 
 fn same_task(a: Task, b: Task) -> bool {
-    a.doing == b.doing && a.slot == b.slot && a.link == b.link && a.seen == b.seen && a.position == b.position
+    a.doing == b.doing
+        && a.slot == b.slot
+        && a.link == b.link
+        && a.seen == b.seen
+        && a.position == b.position
 }
 
 fn same_tasks(a: [Task; 8], b: [Task; 8]) -> bool {
@@ -189,7 +193,12 @@ fn same_free<'a>(a: &'a [bool; 240], b: &'a [bool; 240]) -> bool {
 }
 
 // The same marks, and the same hazards under them.
-fn same_protected<'a>(a: &'a [u8; 32], b: &'a [u8; 32], am: &'a [bool; 32], bm: &'a [bool; 32]) -> bool {
+fn same_protected<'a>(
+    a: &'a [u8; 32],
+    b: &'a [u8; 32],
+    am: &'a [bool; 32],
+    bm: &'a [bool; 32],
+) -> bool {
     for p in 0..32 {
         if am[p] != bm[p] {
             return false;
@@ -202,17 +211,12 @@ fn same_protected<'a>(a: &'a [u8; 32], b: &'a [u8; 32], am: &'a [bool; 32], bm: 
 }
 
 impl Raw {
-    // The same objects in links, hands and slots with the mark on.
-    pub fn same_held(self, other: Raw) -> bool {
-        same(&self.link, &other.link)
-            && same(&self.hand, &other.hand)
-            && same_protected(&self.hazard, &other.hazard, &self.mark, &other.mark)
-    }
-
     pub fn same(self, other: Raw) -> bool {
         let mine = self.task;
         let yours = other.task;
-        let sizes = self.threads == other.threads && self.slots == other.slots && self.links == other.links;
+        let sizes = self.threads == other.threads
+            && self.slots == other.slots
+            && self.links == other.links;
         sizes
             && self.objects == other.objects
             && same(&self.link, &other.link)

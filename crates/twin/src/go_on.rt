@@ -106,7 +106,11 @@ impl Twin {
                 self.mark[p] = false;
             }
         }
-        let from = if early { place::carried(t) } else { place::handover(p) };
+        let from = if early {
+            place::carried(t)
+        } else {
+            place::handover(p)
+        };
         let object = place::lowest(&self.place, self.objects, from);
         if object == 0 {
             return self.rest(t, 9, 0, 0);

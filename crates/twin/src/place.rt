@@ -3,10 +3,15 @@
 use crate::num;
 
 pub const NOWHERE: u8 = 39;
+
 pub const FREE: u8 = 40;
+
 const LINK: usize = 80;
+
 const HAND: usize = 120;
+
 const HANDOVER: usize = 160;
+
 const CARRIED: usize = 200;
 
 pub fn link(l: usize) -> u8 {
@@ -18,11 +23,19 @@ pub fn hand(t: usize) -> u8 {
 }
 
 pub fn handover(p: usize) -> u8 {
-    if p < 32 { num::byte(HANDOVER + p) } else { NOWHERE }
+    if p < 32 {
+        num::byte(HANDOVER + p)
+    } else {
+        NOWHERE
+    }
 }
 
 pub fn carried(t: usize) -> u8 {
-    if t < 8 { num::byte(CARRIED + t) } else { NOWHERE }
+    if t < 8 {
+        num::byte(CARRIED + t)
+    } else {
+        NOWHERE
+    }
 }
 
 // 1 free, 2 a link, 3 a hand, 4 a handover, 5 carried.

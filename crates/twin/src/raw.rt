@@ -230,6 +230,10 @@ impl Raw {
     }
 
     pub fn sound(self) -> bool {
-        self.sized() && self.in_range() && self.tasks_fit() && self.marks_stand() && self.each_once()
+        self.sized()
+            && self.in_range()
+            && self.tasks_fit()
+            && self.marks_stand()
+            && self.each_once()
     }
 }

@@ -62,11 +62,19 @@ fn unlisted(store: Store) -> Told {
 impl Store {
     // The record that an object's number is read as.
     pub fn record(self, object: usize) -> usize {
-        if object < 241 { num::wide(self.last[object]) } else { 0 }
+        if object < 241 {
+            num::wide(self.last[object])
+        } else {
+            0
+        }
     }
 
     fn tag_of(self, record: usize) -> usize {
-        if record < 256 { num::wide32(self.tag[record]) } else { 0 }
+        if record < 256 {
+            num::wide32(self.tag[record])
+        } else {
+            0
+        }
     }
 
     fn link_at(self, l: usize) -> usize {
@@ -234,7 +242,12 @@ fn same_records<'a>(records: &'a [u8], objects: &'a [u8], last: &'a [u8; 241]) -
     true
 }
 
-fn same_protected<'a>(records: &'a [u8; 32], hazards: &'a [u8; 32], marks: &'a [bool; 32], last: &'a [u8; 241]) -> bool {
+fn same_protected<'a>(
+    records: &'a [u8; 32],
+    hazards: &'a [u8; 32],
+    marks: &'a [bool; 32],
+    last: &'a [u8; 241],
+) -> bool {
     for p in 0..32 {
         let object = num::wide(hazards[p]);
         if marks[p] {

@@ -2,10 +2,15 @@ use crate::num;
 use crate::place;
 
 pub const IDLE: usize = 0;
+
 pub const LOADED: usize = 1;
+
 pub const PUBLISHED: usize = 2;
+
 pub const DRAINING: usize = 3;
+
 pub const LOOK: usize = 4;
+
 pub const SWAP: usize = 5;
 
 // What a thread is in the middle of. Fields that it does not use are 0. The object that Look and Swap carry is not here: it
@@ -141,11 +146,7 @@ fn all_free(places: &mut [u8; 241], objects: usize) {
 }
 
 pub fn task_at(tasks: [Task; 8], t: usize) -> Task {
-    if t < 8 {
-        tasks[t]
-    } else {
-        idle()
-    }
+    if t < 8 { tasks[t] } else { idle() }
 }
 
 impl Twin {

@@ -11,10 +11,10 @@ use Rattle.beside.proofs.draw.sensible.Reads as sensible-reads
 use Rattle.twin.proofs.twin.Twin.refusal.Reads as refusal-reads
 
 abbrev Inv-loop : tie.InvT-loop
-Inv-loop seed first w k₀ k = k ≤ 8
+Inv-loop seed first loyal w k₀ k = k ≤ 8
 
 abbrev μ-loop : tie.MeasureT-loop
-μ-loop seed first w k₀ k = 8 - k
+μ-loop seed first loyal w k₀ k = 8 - k
 
 loop-holds : tie.Need-loop-holds Inv-loop μ-loop
 loop-holds c = search needs

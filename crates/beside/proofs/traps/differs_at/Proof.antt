@@ -7,7 +7,7 @@ use Rattle.beside.proofs.draw.order.Reads as order-reads
 use Rattle.beside.proofs.plain.call.Reads as call-reads
 use Rattle.beside.proofs.plain.said.Reads as said-reads
 use Rattle.beside.proofs.run.machine_start.Reads as machine-start-reads
-use Rattle.beside.proofs.traps.differ_now.Reads as differ-now-reads
+use Rattle.beside.proofs.totals.same_said.Reads as same-said-reads
 use Rattle.beside.proofs.traps.fresh.Reads as fresh-reads
 use Rattle.machine.proofs.State.step.Reads as State-step-reads
 use Rattle.twin.proofs.twin.Twin.step.Reads as twin-Twin-step-reads
@@ -48,8 +48,8 @@ step-requires-3 c κs = search needs
 said-requires : tie.Need-said-requires Inv-loop μ-loop
 said-requires c κs = search needs
 
-differ-now-requires : tie.Need-differ-now-requires Inv-loop μ-loop
-differ-now-requires c κs = search needs
+same-said-requires : tie.Need-same-said-requires Inv-loop μ-loop
+same-said-requires c κs = search needs
 
 returns : tie.Need-returns Inv-loop μ-loop
 returns c = search needs
@@ -82,7 +82,7 @@ differs-at-spec =
     step-requires-2
     step-requires-3
     said-requires
-    differ-now-requires
+    same-said-requires
     returns
     add-i
     loop-less
