@@ -1,0 +1,243 @@
+// States made from reachable ones by changing a few fields: sound or not, by both checks, and one call on each.
+use crate::dice;
+use crate::draw;
+use crate::draw::Plan;
+use crate::plain;
+use crate::run;
+use crate::totals;
+use crate::totals::Totals;
+use machine::Phase;
+use machine::Slot;
+use machine::State;
+use machine::Thread;
+
+fn phase(seed: usize, h: usize, l: usize, n: usize) -> Phase {
+    let slot = plain::byte(dice::pick(seed, 11, h));
+    let link = plain::byte(dice::pick(seed, 12, l));
+    let object = plain::byte(dice::pick(seed, 13, n));
+    let position = plain::byte(dice::pick(seed, 14, 34));
+    match dice::pick(seed, 15, 8) {
+        0 => Phase::Idle,
+        1 | 2 => Phase::Loaded { slot, link, object },
+        3 | 4 => Phase::Published { slot, link },
+        5 => Phase::Draining { slot },
+        6 => Phase::Look { object, position },
+        _ => Phase::Swap { object, position },
+    }
+}
+
+// Up to one past the size, and now and then anywhere.
+fn index(seed: usize, k: usize, size: usize, most: usize) -> usize {
+    if dice::pick(seed, k ^ 64, 16) == 0 {
+        return dice::pick(seed, k, most);
+    }
+    dice::pick(seed, k, size)
+}
+
+// T × H, where H is at most 4.
+fn positions(threads: u8, slots: u8) -> usize {
+    let t = plain::wide(threads) % 256;
+    match slots {
+        0 => 0,
+        1 => t,
+        2 => t + t,
+        3 => t + t + t,
+        _ => t + t + t + t,
+    }
+}
+
+fn change_link(seed: usize, mut s: State) -> State {
+    let z = s.sizes;
+    let l = index(seed, 1, plain::wide(z.links), 16);
+    let object = dice::pick(seed, 2, 242);
+    let near = dice::pick(seed, 3, plain::wide(z.objects));
+    if l < 16 {
+        s.links[l] = plain::byte(if dice::pick(seed, 4, 4) == 0 {
+            object
+        } else {
+            near
+        });
+    }
+    s
+}
+
+fn change_thread(seed: usize, mut s: State) -> State {
+    let z = s.sizes;
+    let t = index(seed, 1, plain::wide(z.threads), 8);
+    let n = plain::wide(z.objects);
+    if t < 8 {
+        let old = s.threads[t];
+        let was = old.phase;
+        let next = phase(seed, plain::wide(z.slots), plain::wide(z.links), n);
+        let only_hand = dice::pick(seed, 5, 4) == 0;
+        let hand = if only_hand {
+            plain::byte(dice::pick(seed, 6, n))
+        } else {
+            old.hand
+        };
+        if only_hand {
+            s.threads[t] = Thread { hand, phase: was };
+        } else {
+            s.threads[t] = Thread { hand, phase: next };
+        }
+    }
+    s
+}
+
+fn change_slot(seed: usize, mut s: State) -> State {
+    let z = s.sizes;
+    let p = index(seed, 1, positions(z.threads, z.slots), 32);
+    let n = plain::wide(z.objects);
+    let k = dice::pick(seed, 2, 8);
+    if p < 32 {
+        let old = s.slots[p];
+        let hazard = plain::byte(dice::pick(seed, 3, 242) % 242);
+        let close = plain::byte(dice::pick(seed, 4, n));
+        s.slots[p] = Slot {
+            hazard: if k < 3 {
+                close
+            } else if k == 3 {
+                hazard
+            } else {
+                old.hazard
+            },
+            mark: if k == 4 || k == 5 {
+                !old.mark
+            } else {
+                old.mark
+            },
+            handover: if k == 6 { close } else { old.handover },
+        };
+    }
+    s
+}
+
+fn change_object(seed: usize, mut s: State) -> State {
+    let z = s.sizes;
+    let i = index(seed, 1, plain::wide(z.objects), 240);
+    if i < 240 {
+        if dice::pick(seed, 2, 3) == 0 {
+            let was = s.free[i];
+            s.free[i] = !was;
+        } else {
+            s.tags[i] = plain::word(dice::mix(seed, 3));
+        }
+    }
+    s
+}
+
+// One free object goes to an empty link: a sound state gives a sound one.
+fn move_free(seed: usize, mut s: State) -> State {
+    let z = s.sizes;
+    let i = dice::pick(seed, 1, plain::wide(z.objects));
+    let l = dice::pick(seed, 2, plain::wide(z.links));
+    if i < 240 && l < 16 {
+        if s.free[i] && s.links[l] == 0 {
+            s.free[i] = false;
+            s.links[l] = plain::byte(i + 1);
+        }
+    }
+    s
+}
+
+// What a link holds goes to a handover that is empty: a sound state gives a sound one.
+fn move_link(seed: usize, mut s: State) -> State {
+    let z = s.sizes;
+    let l = dice::pick(seed, 1, plain::wide(z.links));
+    let p = dice::pick(seed, 2, positions(z.threads, z.slots));
+    if l < 16 {
+        if p < 32 {
+            let old = s.slots[p];
+            let object = s.links[l];
+            if old.handover == 0 {
+                s.links[l] = 0;
+                s.slots[p] = Slot {
+                    hazard: old.hazard,
+                    mark: old.mark,
+                    handover: object,
+                };
+            }
+        }
+    }
+    s
+}
+
+fn change_size(seed: usize, mut s: State) -> State {
+    let mut z = s.sizes;
+    match dice::pick(seed, 1, 5) {
+        0 => {
+            z.threads = plain::byte(dice::pick(seed, 2, 10));
+        }
+        1 => {
+            z.slots = plain::byte(dice::pick(seed, 2, 6));
+        }
+        2 => {
+            z.links = plain::byte(dice::pick(seed, 2, 18));
+        }
+        3 => {
+            z.objects = plain::byte(dice::pick(seed, 2, 256));
+        }
+        _ => {
+            z.threads = 0;
+            z.slots = 0;
+            z.links = 0;
+            z.objects = 0;
+        }
+    }
+    s.sizes = z;
+    s
+}
+
+fn change(seed: usize, s: State) -> State {
+    match dice::pick(seed, 0, 16) {
+        0 => change_link(seed, s),
+        1 | 2 => change_thread(seed, s),
+        3 | 4 | 5 => change_slot(seed, s),
+        6 | 7 => change_object(seed, s),
+        8 => change_size(seed, s),
+        9 | 10 | 11 | 12 => move_free(seed, s),
+        _ => move_link(seed, s),
+    }
+}
+
+// One to three changes.
+fn changed(seed: usize, s: State) -> State {
+    let once = change(dice::mix(seed, 21), s);
+    let many = dice::pick(seed, 20, 3);
+    if many == 0 {
+        return once;
+    }
+    let twice = change(dice::mix(seed, 22), once);
+    if many == 1 {
+        return twice;
+    }
+    change(dice::mix(seed, 23), twice)
+}
+
+// Both checks on a changed state, and then a call and a count: on a sound one as the twin has them, on another 19, the same
+// state, and five zeros.
+pub fn judged(before: Totals, plan: Plan, index: usize, reached: State) -> Totals {
+    let s = changed(dice::mix(plan.seed, index ^ 512), reached);
+    let raw = plain::raw(s);
+    let yes = raw.sound();
+    let totals = before.soundness(yes, s.is_sound() == yes);
+    let w = raw.twin();
+    let order = draw::order(plan, index ^ 256, w);
+    let out = s.step(plain::call(order));
+    let answer = out.answer;
+    let next = plain::raw(out.state);
+    let said = plain::said(answer);
+    let seen = totals.see(said.number);
+    let five = run::first_count(s);
+    if yes {
+        let ours = w.step(order);
+        let after = ours.twin;
+        let mine = ours.said;
+        let ended = seen.call(totals::same_said(said, mine))
+            .state(next.same(after.raw()));
+        return ended.count(run::same_five(five, run::twin_count(w)));
+    }
+    let refused = seen.call(said.number == 19 && said.a == 0 && said.b == 0)
+        .state(next.same(raw));
+    refused.count(run::same_five(five, run::none_counted()))
+}

@@ -1,0 +1,77 @@
+// What is printed.
+use crate::draw;
+use crate::draw::Plan;
+use crate::plain;
+use crate::totals::Totals;
+use twin::Order;
+
+pub fn text(s: &[u8]) {
+    let _ok = io::write_all(1, s);
+}
+
+pub fn number(n: usize) {
+    let _ok = io::print_decimal(1, n as u64);
+}
+
+fn line(s: &[u8], n: usize) {
+    text(s);
+    number(n);
+    text(b"\n");
+}
+
+fn seen(t: Totals, low: usize, high: usize) {
+    for k in 0..64 {
+        if low <= k {
+            if k <= high {
+                text(b" ");
+                number(k);
+                text(b":");
+                number(plain::wide32(t.seen[k]));
+            }
+        }
+    }
+    text(b"\n");
+}
+
+pub fn totals(t: Totals) {
+    line(b"schedules ", draw::SCHEDULES);
+    line(b"started ", t.started);
+    line(b"answers compared ", t.calls);
+    line(b"whole states compared ", t.states);
+    line(b"counts of the five places compared ", t.counts);
+    line(b"store's answers compared ", t.listed);
+    line(b"holdings compared ", t.holdings);
+    text(b"answers seen");
+    seen(t, 1, 11);
+    text(b"refusals seen");
+    seen(t, 19, 31);
+    line(b"changed states judged by both checks ", t.changed);
+    line(b"  sound ", t.sound);
+    line(b"  not sound ", t.unsound);
+    line(b"differences ", t.differences);
+}
+
+pub fn sizes(p: Plan) {
+    number(p.threads);
+    text(b" ");
+    number(p.slots);
+    text(b" ");
+    number(p.links);
+    text(b" ");
+    number(p.objects);
+}
+
+// Thread, operation, slot, link and tag, as 01 writes a step.
+pub fn order(o: Order) {
+    text(b" ");
+    number(o.thread);
+    text(b" ");
+    number(o.operation);
+    text(b" ");
+    number(o.slot);
+    text(b" ");
+    number(o.link);
+    text(b" ");
+    number(o.tag);
+    text(b";");
+}

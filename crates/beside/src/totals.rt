@@ -1,0 +1,104 @@
+// What was compared, and what was seen.
+use twin::Said;
+
+pub struct Totals {
+    // How often each answer and refusal was given, by its number.
+    pub seen: [u32; 64],
+    pub started: usize,
+    pub calls: usize,
+    pub counts: usize,
+    pub states: usize,
+    pub listed: usize,
+    pub holdings: usize,
+    pub changed: usize,
+    pub sound: usize,
+    pub unsound: usize,
+    pub differences: usize,
+}
+
+pub fn none() -> Totals {
+    Totals {
+        seen: [0; 64],
+        started: 0,
+        calls: 0,
+        counts: 0,
+        states: 0,
+        listed: 0,
+        holdings: 0,
+        changed: 0,
+        sound: 0,
+        unsound: 0,
+        differences: 0,
+    }
+}
+
+pub fn up(n: usize) -> usize {
+    if n < 1000000000 { n + 1 } else { n }
+}
+
+pub fn same_said(a: Said, b: Said) -> bool {
+    a.number == b.number && a.a == b.a && a.b == b.b
+}
+
+impl Totals {
+    pub fn see(mut self, number: usize) -> Totals {
+        if number < 64 {
+            let n = self.seen[number];
+            if n < 1000000000 {
+                self.seen[number] = n + 1;
+            }
+        }
+        self
+    }
+
+    pub fn agree(mut self, same: bool) -> Totals {
+        if !same {
+            self.differences = up(self.differences);
+        }
+        self
+    }
+
+    pub fn start(mut self, good: bool) -> Totals {
+        if good {
+            self.started = up(self.started);
+        }
+        self
+    }
+
+    pub fn call(mut self, same: bool) -> Totals {
+        self.calls = up(self.calls);
+        self.agree(same)
+    }
+
+    pub fn count(mut self, same: bool) -> Totals {
+        self.counts = up(self.counts);
+        self.agree(same)
+    }
+
+    pub fn state(mut self, same: bool) -> Totals {
+        self.states = up(self.states);
+        self.agree(same)
+    }
+
+    pub fn listing(mut self, listed: bool, same: bool) -> Totals {
+        if listed {
+            self.listed = up(self.listed);
+        }
+        self.agree(same)
+    }
+
+    pub fn holding(mut self, same: bool) -> Totals {
+        self.holdings = up(self.holdings);
+        self.agree(same)
+    }
+
+    pub fn soundness(mut self, yes: bool, same: bool) -> Totals {
+        self.changed = up(self.changed);
+        if yes {
+            self.sound = up(self.sound);
+        } else {
+            self.unsound = up(self.unsound);
+        }
+        self.agree(same)
+    }
+}

@@ -1,0 +1,193 @@
+use crate::num;
+use crate::place;
+
+pub const IDLE: usize = 0;
+
+pub const LOADED: usize = 1;
+
+pub const PUBLISHED: usize = 2;
+
+pub const DRAINING: usize = 3;
+
+pub const LOOK: usize = 4;
+
+pub const SWAP: usize = 5;
+
+// What a thread is in the middle of. Fields that it does not use are 0. The object that Look and Swap carry is not here: it
+// is the one whose place is "carried by this thread".
+pub struct Task {
+    pub doing: usize,
+    pub slot: usize,
+    pub link: usize,
+    pub seen: usize,
+    pub position: usize,
+}
+
+// `trap` is 0, or the number of one of 01's traps that this twin falls into (trap.rt).
+pub struct Twin {
+    pub trap: usize,
+    pub threads: usize,
+    pub slots: usize,
+    pub links: usize,
+    pub objects: usize,
+    pub place: [u8; 241],
+    pub tag: [u32; 241],
+    pub hazard: [u8; 32],
+    pub mark: [bool; 32],
+    pub task: [Task; 8],
+}
+
+pub struct Order {
+    pub thread: usize,
+    pub operation: usize,
+    pub slot: usize,
+    pub link: usize,
+    pub tag: usize,
+}
+
+// An answer or refusal by 01's number, with its two values.
+pub struct Said {
+    pub number: usize,
+    pub a: usize,
+    pub b: usize,
+}
+
+pub struct Stepped {
+    pub twin: Twin,
+    pub said: Said,
+}
+
+pub fn idle() -> Task {
+    Task {
+        doing: IDLE,
+        slot: 0,
+        link: 0,
+        seen: 0,
+        position: 0,
+    }
+}
+
+// Look or Swap at a position.
+pub fn scanning(doing: usize, position: usize) -> Task {
+    Task {
+        doing,
+        slot: 0,
+        link: 0,
+        seen: 0,
+        position,
+    }
+}
+
+pub fn blank() -> Twin {
+    let rest = idle();
+    Twin {
+        trap: 0,
+        threads: 0,
+        slots: 0,
+        links: 0,
+        objects: 0,
+        place: [0; 241],
+        tag: [0; 241],
+        hazard: [0; 32],
+        mark: [false; 32],
+        task: [rest; 8],
+    }
+}
+
+pub fn answer(twin: Twin, number: usize, a: usize, b: usize) -> Stepped {
+    let said = Said { number, a, b };
+    Stepped { twin, said }
+}
+
+// 01: sizes "T threads 1 to 8, H hazard slots per thread 1 to 4, L links 1 to 16, N objects 1 to 240"; any other is refused 20
+// and gives the blank state.
+pub fn start(threads: usize, slots: usize, links: usize, objects: usize) -> Stepped {
+    let none = blank();
+    if threads < 1 || 8 < threads || slots < 1 || 4 < slots {
+        return answer(none, 20, 0, 0);
+    }
+    if links < 1 || 16 < links || objects < 1 || 240 < objects {
+        return answer(none, 20, 0, 0);
+    }
+    let mut fresh = none;
+    all_free(&mut fresh.place, objects);
+    fresh.threads = threads;
+    fresh.slots = slots;
+    fresh.links = links;
+    fresh.objects = objects;
+    answer(fresh, 0, 0, 0)
+}
+
+// How many of n objects are in places of each kind.
+fn kinds(places: &[u8; 241], n: usize) -> [u8; 8] {
+    let mut counts = [0; 8];
+    for o in 1..241 {
+        if n < o {
+            return counts;
+        }
+        let kind = place::kind(places[o]);
+        if kind < 8 {
+            counts[kind] = more(counts[kind]);
+        }
+    }
+    counts
+}
+
+fn more(n: u8) -> u8 {
+    if n < 255 { n + 1 } else { n }
+}
+
+fn all_free(places: &mut [u8; 241], objects: usize) {
+    for o in 1..241 {
+        if o <= objects {
+            places[o] = place::FREE;
+        }
+    }
+}
+
+pub fn task_at(tasks: [Task; 8], t: usize) -> Task {
+    if t < 8 { tasks[t] } else { idle() }
+}
+
+impl Twin {
+    pub fn in_trap(mut self, trap: usize) -> Twin {
+        self.trap = trap;
+        self
+    }
+
+    // How many objects are in places of each kind, by `place::kind`.
+    pub fn counts(self) -> [u8; 8] {
+        kinds(&self.place, self.objects)
+    }
+
+    // Whether a thread's hand is full.
+    pub fn holds(self, t: usize) -> bool {
+        place::lowest(&self.place, self.objects, place::hand(t)) != 0
+    }
+
+    pub fn in_link(self, l: usize) -> usize {
+        place::lowest(&self.place, self.objects, place::link(l))
+    }
+
+    pub fn hazard_of(self, t: usize, slot: usize) -> usize {
+        num::at(&self.hazard, place::position(t, self.slots, slot))
+    }
+
+    pub fn busy(self, t: usize) -> bool {
+        let tasks = self.task;
+        let task = task_at(tasks, t);
+        task.doing != IDLE
+    }
+
+    // T × (H + 1), the most objects that can wait to be freed.
+    pub fn bound(self) -> usize {
+        let all = place::position(self.threads, self.slots, 0);
+        let threads = self.threads;
+        if threads < 9 {
+            if all < 33 {
+                return all + threads;
+            }
+        }
+        0
+    }
+}
