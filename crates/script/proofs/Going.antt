@@ -127,15 +127,16 @@ module _ (text out₀ : List ℕ) (at number full : ℕ) (out : List ℕ) (g : G
       coming = rw (put-front full added out fits, next-is) (rw took at line-coming) })
 
   -- a line that is wrong
-  pub going-wrong : (fault : Fault) (out′ : List ℕ) → out′ ≡ put full added out → tookOf (length out) full (lineOf text at (eqb full 0)) ≡ Bad fault → (packed.Bad number fault ≡ packOf (length out₀) text .said) × (out′ ≡ put 0 (packOf (length out₀) text .bytes) out₀)
+  pub going-wrong : (fault : Fault) (out′ : List ℕ) → out′ ≡ put full added out → tookOf (length out) full (lineOf text at (eqb full 0)) ≡ Bad fault → (packed.Bad number fault ≡ packOf (length out₀) text .said) × (Unit {0} × (out′ ≡ put 0 (packOf (length out₀) text .bytes) out₀))
   unfolding goOn
   going-wrong fault out′ e took =
     let sized : length (put full added out) ≡ length out = put-length full added out fits in
     let room = fits in
     rw (e, line-coming, took)
     (refl,
-     put-whole (full + length added) (put full added out) out₀ (omega arith) kept-on
-     ∙ ap (λ (l : List ℕ). put 0 l out₀) (put-front full added out fits))
+     (tt,
+      put-whole (full + length added) (put full added out) out₀ (omega arith) kept-on
+      ∙ ap (λ (l : List ℕ). put 0 l out₀) (put-front full added out fits)))
 
 -- the text's end
 module _ (text out₀ : List ℕ) (at number full : ℕ) (out : List ℕ) (g : Going text out₀ at number full out) (h : length text ≤ at) where
@@ -146,11 +147,14 @@ module _ (text out₀ : List ℕ) (at number full : ℕ) (out : List ℕ) (g : G
   unfolding finish
   end-bytes = rw end-coming (put-whole full out out₀ (g .within) (g .kept))
 
-  pub going-none : full ≡ 0 → (packed.Bad number (faultOf NoSizes) ≡ packOf (length out₀) text .said) × (out ≡ put 0 (packOf (length out₀) text .bytes) out₀)
+  pub going-none : full ≡ 0 → (packed.Bad number (faultOf NoSizes) ≡ packOf (length out₀) text .said) × (Unit {0} × (out ≡ put 0 (packOf (length out₀) text .bytes) out₀))
   unfolding finish
   going-none e =
-    (rw (end-coming, eq-eqb (length (take full out)) 0 (length-take-le full out (g .within) ∙ e)), end-bytes)
+    (rw (end-coming, eq-eqb (length (take full out)) 0 (length-take-le full out (g .within) ∙ e)), (tt, end-bytes))
 
-  pub going-end : (full ≡ 0 → ⊥) → (packed.Done full ≡ packOf (length out₀) text .said) × (out ≡ put 0 (packOf (length out₀) text .bytes) out₀)
+  pub going-end : (full ≡ 0 → ⊥) → (packed.Done full ≡ packOf (length out₀) text .said) × ((full ≤ length out₀) × (out ≡ put 0 (packOf (length out₀) text .bytes) out₀))
   unfolding finish
-  going-end e = (rw (end-coming, length-take-le full out (g .within), ne-eqb full 0 e), end-bytes)
+  going-end e =
+    let room = g .within in
+    let same = g .size in
+    (rw (end-coming, length-take-le full out (g .within), ne-eqb full 0 e), (omega arith, end-bytes))

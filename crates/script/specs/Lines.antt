@@ -36,8 +36,8 @@ withNumber place word (number.Value v) rest = rest v
 withNumber place word (number.Bad why) rest = wrong why place word
 
 -- a word after the last field is one too many
-abbrev pub withoutMore : Word → Line → Line
-withoutMore word line = cond (ltb (word .from) (word .to)) (wrong TooMany place.Beyond word) line
+abbrev pub withoutMore : Place → Word → Line → Line
+withoutMore place word line = cond (ltb (word .from) (word .to)) (wrong TooMany place word) line
 
 -- "a line of four sizes"
 unfoldable pub sizesLine : List ℕ → ℕ → Line
@@ -47,7 +47,7 @@ sizesLine text at =
     (λ threads. withByte place.Slots (word 1) (byteOf (bytesOf text (word 1)))
     (λ slots. withByte place.Links (word 2) (byteOf (bytesOf text (word 2)))
     (λ links. withByte place.Objects (word 3) (byteOf (bytesOf text (word 3)))
-    (λ objects. withoutMore (word 4)
+    (λ objects. withoutMore place.AfterSizes (word 4)
     (Sizes (record { threads = threads; slots = slots; links = links; objects = objects }))))))
 
 -- "a line a step with thread, operation and, where not 0, slot, link, tag"
@@ -59,7 +59,7 @@ stepLine text at =
     (λ operation. withByte place.Slot (word 2) (slotOf operation (bytesOf text (word 2)))
     (λ slot. withByte place.Link (word 3) (byteOrZero (bytesOf text (word 3)))
     (λ link. withNumber place.Tag (word 4) (tagOf (bytesOf text (word 4)))
-    (λ tag. withoutMore (word 5)
+    (λ tag. withoutMore place.AfterStep (word 5)
     (Step (record { thread = thread; operation = operation; slot = slot; link = link; tag = tag })))))))
 
 -- "blank lines and comments allowed"; the first line that says something has the sizes

@@ -1,5 +1,5 @@
 -- A whole text as records.
-use Prim.Native.Nat.{ℕ, zero, suc, _+_, _-_}
+use Prim.Native.Nat.{ℕ, zero, suc, _+_, _-_, _≤_}
 use mathlib.Core.List.{List, [], _++_}
 use mathlib.Core.Bool.{Bool, cond}
 use lib.ListN.{length, take, drop}
@@ -7,7 +7,7 @@ use lib.Dec.{eqb, ltb}
 use Rattle.records.specs.Bytes.{sizesBytes, stepBytes}
 use Rattle.script.specs.declared.Why.{Why}
 use Rattle.script.specs.declared.Why.the-variants.{NoSizes, NoRoom}
-use Rattle.script.specs.declared.Place.the-variants.{Beyond}
+use Rattle.script.specs.declared.Place.the-variants.{Whole}
 use Rattle.script.specs.declared.Fault.{Fault}
 use Rattle.script.specs.declared.Line.{Line}
 use Rattle.script.specs.declared.Line.the-variants as line
@@ -26,7 +26,7 @@ nextLine text at =
 
 -- a fault of no word
 abbrev pub faultOf : Why → Fault
-faultOf why = record { why = why; place = Beyond; word = record { from = 0; to = 0 } }
+faultOf why = record { why = why; place = Whole; word = record { from = 0; to = 0 } }
 
 -- a buffer after bytes were written over those from a place on
 unfoldable pub put : ℕ → List ℕ → List ℕ → List ℕ
@@ -80,3 +80,8 @@ packFrom (suc lines) room text at line done =
 -- a text has at most as many lines as bytes
 unfoldable pub packOf : ℕ → List ℕ → Outcome
 packOf room text = packFrom (length text) room text 0 1 []
+
+-- the records fill no more than the buffer's room
+abbrev pub Within : Packed → ℕ → Type 0
+Within (packed.Done n) room = n ≤ room
+Within (packed.Bad number fault) room = Unit {0}

@@ -46,7 +46,12 @@ pub enum Place {
     Slot,
     Link,
     Tag,
-    Beyond,
+    // after the last of the sizes
+    AfterSizes,
+    // after the last field of a step
+    AfterStep,
+    // none of them
+    Whole,
 }
 
 // What is wrong, in which field, and the word at which it was seen.

@@ -58,7 +58,7 @@ fn sizes_line(text: &[u8], at: usize) -> Line
     };
     let more = word_at(text, fourth.to);
     if more.from < more.to {
-        return bad(Why::TooMany, Place::Beyond, more);
+        return bad(Why::TooMany, Place::AfterSizes, more);
     }
     Line::Sizes(SizesRecord { threads, slots, links, objects })
 }
@@ -100,7 +100,7 @@ fn step_line(text: &[u8], at: usize) -> Line
     };
     let more = word_at(text, fifth.to);
     if more.from < more.to {
-        return bad(Why::TooMany, Place::Beyond, more);
+        return bad(Why::TooMany, Place::AfterStep, more);
     }
     Line::Step(StepRecord { thread, operation, slot, link, tag })
 }

@@ -18,7 +18,7 @@ ghost use lib.ListN.{length};
 ghost use lib.Dec.{eqb};
 ghost use Rattle.records.specs.Bytes.{sizesBytes, stepBytes};
 ghost use Rattle.script.specs.Lines.{lineOf};
-ghost use Rattle.script.specs.Packing.{nextLine, faultOf, put, fullAfter, roomFor, addedBy, tookOf, packOf};
+ghost use Rattle.script.specs.Packing.{nextLine, faultOf, put, fullAfter, roomFor, addedBy, tookOf, packOf, Within};
 
 // A fault of no word.
 fn fault_of(why: Why) -> Fault
@@ -26,7 +26,7 @@ fn fault_of(why: Why) -> Fault
 {
     Fault {
         why,
-        place: Place::Beyond,
+        place: Place::Whole,
         word: Word { from: 0, to: 0 },
     }
 }
@@ -89,6 +89,7 @@ fn take_line(text: &[u8], at: usize, out: &mut [u8], full: usize) -> Took
 // of the lines before it.
 pub fn pack(text: &[u8], out: &mut [u8]) -> Packed
     ensures said { λ r. ⌜ r ≡ packOf (length (now (out .entry))) (now (text .entry)) .said ⌝ }
+    ensures within { λ r. ⌜ Within r (length (now (out .entry))) ⌝ }
     ensures bytes { λ _. ⌜ now (out .exit) ≡ put 0 (packOf (length (now (out .entry))) (now (text .entry)) .bytes) (now (out .entry)) ⌝ }
 {
     let mut at = 0;
