@@ -4,6 +4,7 @@ use script::Fault;
 use script::Place;
 use script::Why;
 use script::Word;
+ghost use Rattle.io.specs.Counts.{Counts};
 
 pub fn say(words: &[u8]) {
     io::write_all(STDERR_FILENO, words);
@@ -20,31 +21,34 @@ fn shown(b: u8) -> u8 {
     b
 }
 
-// A word in quotation marks, its first 40 bytes.
-fn say_word(text: &[u8], word: Word) {
-    let mut bytes = [0u8; 40];
-    let from = word.from;
-    let to = word.to;
+// The first bytes of a word as they can be shown, as many as there is room for, and how many they are.
+fn show(word: &[u8], bytes: &mut [u8]) -> usize
+    ensures { λ r. ⌜ Counts r (now (bytes .exit)) ⌝ }
+{
     let mut n = 0;
-    while n < 40 {
-        if from >= to {
+    while n < word.len() {
+        if n == bytes.len() {
             break;
         }
-        if n >= to - from {
-            break;
-        }
-        if n >= text.len() {
-            break;
-        }
-        if from >= text.len() - n {
-            break;
-        }
-        bytes[n] = shown(text[from + n]);
+        bytes[n] = shown(word[n]);
         n += 1;
     }
-    say(b"'");
-    say(&bytes[..n]);
-    say(b"'");
+    n
+}
+
+// A word of the text in quotation marks; of a long one the first 40 bytes.
+fn say_word(text: &[u8], word: Word) {
+    let from = word.from;
+    let to = word.to;
+    if from <= to {
+        if to <= text.len() {
+            let mut bytes = [0u8; 40];
+            let n = show(&text[from..to], &mut bytes);
+            say(b"'");
+            say(&bytes[..n]);
+            say(b"'");
+        }
+    }
 }
 
 fn say_place(place: Place) {
@@ -78,15 +82,21 @@ fn say_range(place: Place) {
 fn say_missing(place: Place) {
     say_place(place);
     match place {
-        Place::Operation => say(b" is missing; a step is a thread, an operation and, where not 0, slot, link and tag\n"),
+        Place::Operation => say(
+            b" is missing; a step is a thread, an operation and, where not 0, slot, link and tag\n",
+        ),
         _ => say(b" is missing; the sizes are four numbers: threads, slots, links, objects\n"),
     }
 }
 
 fn say_too_many(place: Place) {
     match place {
-        Place::AfterSizes => say(b" is one word too many; the sizes are four numbers: threads, slots, links, objects\n"),
-        _ => say(b" is one word too many; a step is a thread, an operation and, where not 0, slot, link and tag\n"),
+        Place::AfterSizes => say(
+            b" is one word too many; the sizes are four numbers: threads, slots, links, objects\n",
+        ),
+        _ => say(
+            b" is one word too many; a step is a thread, an operation and, where not 0, slot, link and tag\n",
+        ),
     }
 }
 
@@ -118,7 +128,9 @@ pub fn say_fault(text: &[u8], line: usize, fault: Fault) {
             say_word(text, word);
             say_too_many(place);
         }
-        Why::NoSizes => say(b"the text ends and has no sizes; the first line is four numbers: threads, slots, links, objects\n"),
+        Why::NoSizes => say(
+            b"the text ends and has no sizes; the first line is four numbers: threads, slots, links, objects\n",
+        ),
         Why::NoRoom => say(b"there is room for 65535 steps, and this is one more\n"),
     }
 }

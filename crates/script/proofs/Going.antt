@@ -65,9 +65,15 @@ pub record Going (text out₀ : List ℕ) (at number full : ℕ) (out : List ℕ
 pub going-start : (text out : List ℕ) → Going text out 0 1 0 out
 unfolding packOf
 going-start text out =
-    record
-    { size = refl; within = omega arith; here = omega arith; numbered = omega arith; few = omega arith; kept = refl;
-      coming = rw (plus-less (length text)) refl }
+    record {
+      size = refl;
+      within = omega arith;
+      here = omega arith;
+      numbered = omega arith;
+      few = omega arith;
+      kept = refl;
+      coming = rw (plus-less (length text)) refl;
+    }
   where
     plus-less : (n : ℕ) → n + 1 - 1 ≡ n
     plus-less n = omega arith
@@ -97,46 +103,55 @@ module _ (text out₀ : List ℕ) (at number full : ℕ) (out : List ℕ) (g : G
   -- what is to come, with this line taken
   line-coming : packOf (length out₀) text ≡ goOn number (take full out ++ added) (packFrom (length text + 1 - (number + 1)) (length out₀) text (nextLine text at) (number + 1)) (tookOf (length out) full (lineOf text at (eqb full 0)))
   line-coming =
-    let many = g .few in
-    let one = g .numbered in
-    let k = length text + 1 - (number + 1) in
-    let lines : length text + 1 - number ≡ suc k = omega arith in
-    rw (g .size)
-    (g .coming ∙ rw full-is at (from-line (length text + 1 - number) k (length out₀) text at number (take full out) lines h))
+      let many = g .few in
+      let one = g .numbered in
+      let k = length text + 1 - (number + 1) in
+      let lines : length text + 1 - number ≡ suc k = omega arith in
+      rw (g .size)
+      (g .coming ∙ rw full-is at (from-line (length text + 1 - number) k (length out₀) text at number (take full out) lines h))
 
   -- the bytes from the next record's place on are as they were
   kept-on : drop (full + length added) (put full added out) ≡ drop (full + length added) out₀
   kept-on =
-    put-back full added out fits
-    ∙ sym (drop-drop (length added) full out)
-    ∙ ap (λ (l : List ℕ). drop (length added) l) (g .kept)
-    ∙ drop-drop (length added) full out₀
+      put-back full added out fits
+      ∙ sym (drop-drop (length added) full out)
+      ∙ ap (λ (l : List ℕ). drop (length added) l) (g .kept)
+      ∙ drop-drop (length added) full out₀
 
   -- on to the next line
   pub going-on : (n : ℕ) (out′ : List ℕ) → out′ ≡ put full added out → tookOf (length out) full (lineOf text at (eqb full 0)) ≡ Full n → (next : ℕ) → next ≡ nextLine text at → at < next → next ≤ length text → Going text out₀ next (number + 1) n out′
   unfolding goOn
   going-on n out′ e took next next-is later there =
-    let sized : length (put full added out) ≡ length out = put-length full added out fits in
-    let many = g .few in
-    let room = fits in
-    let same = g .size in
-    let n-is : n ≡ full + length added = full-then (length out) full n (lineOf text at (eqb full 0)) took in
-    rw (e, n-is)
-    (record
-    { size = omega arith; within = omega arith; here = there; numbered = omega arith; few = omega arith; kept = kept-on;
-      coming = rw (put-front full added out fits, next-is) (rw took at line-coming) })
+      let sized : length (put full added out) ≡ length out = put-length full added out fits in
+      let many = g .few in
+      let room = fits in
+      let same = g .size in
+      let n-is : n ≡ full + length added = full-then (length out) full n (lineOf text at (eqb full 0)) took in
+      rw (e, n-is)
+      (record {
+        size = omega arith;
+        within = omega arith;
+        here = there;
+        numbered = omega arith;
+        few = omega arith;
+        kept = kept-on;
+        coming = rw (put-front full added out fits, next-is) (rw took at line-coming);
+      })
 
   -- a line that is wrong
   pub going-wrong : (fault : Fault) (out′ : List ℕ) → out′ ≡ put full added out → tookOf (length out) full (lineOf text at (eqb full 0)) ≡ Bad fault → (packed.Bad number fault ≡ packOf (length out₀) text .said) × (Unit {0} × (out′ ≡ put 0 (packOf (length out₀) text .bytes) out₀))
   unfolding goOn
   going-wrong fault out′ e took =
-    let sized : length (put full added out) ≡ length out = put-length full added out fits in
-    let room = fits in
-    rw (e, line-coming, took)
-    (refl,
-     (tt,
-      put-whole (full + length added) (put full added out) out₀ (omega arith) kept-on
-      ∙ ap (λ (l : List ℕ). put 0 l out₀) (put-front full added out fits)))
+      let sized : length (put full added out) ≡ length out = put-length full added out fits in
+      let room = fits in
+      rw (e, line-coming, took) (
+        refl,
+        (
+          tt,
+          put-whole (full + length added) (put full added out) out₀ (omega arith) kept-on
+              ∙ ap (λ (l : List ℕ). put 0 l out₀) (put-front full added out fits),
+        ),
+      )
 
 -- the text's end
 module _ (text out₀ : List ℕ) (at number full : ℕ) (out : List ℕ) (g : Going text out₀ at number full out) (h : length text ≤ at) where
@@ -150,11 +165,11 @@ module _ (text out₀ : List ℕ) (at number full : ℕ) (out : List ℕ) (g : G
   pub going-none : full ≡ 0 → (packed.Bad number (faultOf NoSizes) ≡ packOf (length out₀) text .said) × (Unit {0} × (out ≡ put 0 (packOf (length out₀) text .bytes) out₀))
   unfolding finish
   going-none e =
-    (rw (end-coming, eq-eqb (length (take full out)) 0 (length-take-le full out (g .within) ∙ e)), (tt, end-bytes))
+      (rw (end-coming, eq-eqb (length (take full out)) 0 (length-take-le full out (g .within) ∙ e)), (tt, end-bytes))
 
   pub going-end : (full ≡ 0 → ⊥) → (packed.Done full ≡ packOf (length out₀) text .said) × ((full ≤ length out₀) × (out ≡ put 0 (packOf (length out₀) text .bytes) out₀))
   unfolding finish
   going-end e =
-    let room = g .within in
-    let same = g .size in
-    (rw (end-coming, length-take-le full out (g .within), ne-eqb full 0 e), (omega arith, end-bytes))
+      let room = g .within in
+      let same = g .size in
+      (rw (end-coming, length-take-le full out (g .within), ne-eqb full 0 e), (omega arith, end-bytes))

@@ -31,9 +31,9 @@ module _ (at : ℕ) (bytes buffer : List ℕ) (fits : at + length bytes ≤ leng
 
   pub put-length : length (put at bytes buffer) ≡ length buffer
   put-length =
-    rw parted
-    (length-append (take at buffer ++ bytes) (drop (at + length bytes) buffer)
-    ∙ omega (arith, front-length, length-drop (at + length bytes) buffer))
+      rw parted
+      (length-append (take at buffer ++ bytes) (drop (at + length bytes) buffer)
+      ∙ omega (arith, front-length, length-drop (at + length bytes) buffer))
 
 -- a buffer that is as another from a place on is that other with its own first bytes written over
 pub put-whole : (n : ℕ) (buffer other : List ℕ) → n ≤ length buffer → drop n buffer ≡ drop n other → buffer ≡ put 0 (take n buffer) other

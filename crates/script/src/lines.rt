@@ -60,7 +60,12 @@ fn sizes_line(text: &[u8], at: usize) -> Line
     if more.from < more.to {
         return bad(Why::TooMany, Place::AfterSizes, more);
     }
-    Line::Sizes(SizesRecord { threads, slots, links, objects })
+    Line::Sizes(SizesRecord {
+        threads,
+        slots,
+        links,
+        objects,
+    })
 }
 
 // A line of a step: thread, operation and, where not 0, slot, link and tag.
@@ -102,7 +107,13 @@ fn step_line(text: &[u8], at: usize) -> Line
     if more.from < more.to {
         return bad(Why::TooMany, Place::AfterStep, more);
     }
-    Line::Step(StepRecord { thread, operation, slot, link, tag })
+    Line::Step(StepRecord {
+        thread,
+        operation,
+        slot,
+        link,
+        tag,
+    })
 }
 
 // What the line from `at` on says; the first that says something has the sizes.

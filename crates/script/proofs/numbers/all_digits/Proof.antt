@@ -41,10 +41,11 @@ loop-less c = omega arith
 
 loop-again : tie.Need-loop-again Inv-loop μ-loop
 loop-again c =
-    let at = c .before .before .before .before .loop in
-    (omega arith,
-     rw add-one
-     (at .inv .1 ∙ digits-more _ (at .i) (omega arith) (sym (c .before .is-digit .ensures) ∙ not-false _ (c .if1 .left))))
+    let at = c .before .before .before .before .loop in (
+      omega arith,
+      rw add-one
+          (at .inv .1 ∙ digits-more _ (at .i) (omega arith) (sym (c .before .is-digit .ensures) ∙ not-false _ (c .if1 .left))),
+    )
 
 returns-2 : tie.Need-returns-2 Inv-loop μ-loop
 returns-2 c = sym (c .before .loop .inv .1 ∙ digits-end _ _ (c .loop-test .left))

@@ -40,10 +40,11 @@ returns-2 : tie.Need-returns-2
 unfolding sizesBytes
 returns-2 c =
     let start = c .before .before .before .before .before .before in
-    let room = c .before .before .before .before .if1 .left in
-    (simp (le-ltb _ _ room),
-     simp (le-ltb _ _ room, c .before .before .write-sizes .ensures .1)
-     (put-part (start .args .full) (sizesBytes (start .args .sizes)) (start .args .out .now) refl (omega arith)))
+    let room = c .before .before .before .before .if1 .left in (
+      simp (le-ltb _ _ room),
+      simp (le-ltb _ _ room, c .before .before .write-sizes .ensures .1)
+          (put-part (start .args .full) (sizesBytes (start .args .sizes)) (start .args .out .now) refl (omega arith)),
+    )
 
 pub put-sizes-spec : {M : Type 1} → statement M
 put-sizes-spec =

@@ -40,10 +40,11 @@ returns-2 : tie.Need-returns-2
 unfolding stepBytes lowFirst
 returns-2 c =
     let start = c .before .before .before .before .before .before in
-    let room = c .before .before .before .before .if1 .left in
-    (simp (le-ltb _ _ room),
-     simp (le-ltb _ _ room, c .before .before .write-step .ensures .1)
-     (put-part (start .args .full) (stepBytes (start .args .step)) (start .args .out .now) refl (omega arith)))
+    let room = c .before .before .before .before .if1 .left in (
+      simp (le-ltb _ _ room),
+      simp (le-ltb _ _ room, c .before .before .write-step .ensures .1)
+          (put-part (start .args .full) (stepBytes (start .args .step)) (start .args .out .now) refl (omega arith)),
+    )
 
 pub put-step-spec : {M : Type 1} → statement M
 put-step-spec =
