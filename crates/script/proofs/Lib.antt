@@ -1,0 +1,5 @@
+pub mod Runs
+pub mod Digits
+pub mod Same
+pub mod Puts
+pub mod Going

@@ -1,0 +1,71 @@
+-- `script::words::past` meets its contract. The invariant: from the present place on the run ends where it ends from `at` on.
+-- Assumes nothing.
+use Prim.Native.Nat.{_+_, _-_, _≤_}
+use mathlib.Core.Path.{_≡_, refl, sym, ap, _∙_}
+use native.Mathlib.Omega.{arith}
+use native.Mathlib.Numerals.{add-one}
+use borrow.Author.Needs.{needs}
+use borrow.Author.Tests.{not-true, not-false}
+use lib.ListN.{length, drop}
+use Rattle.script.specs.Words.{runOf}
+use Rattle.script.proofs.Runs.{run-stops, run-more, run-ends}
+use Rattle.script.proofs.words.past.Statement.{statement}
+use Rattle.script.proofs.words.past.Tie as tie
+
+abbrev Inv-loop : tie.InvT-loop
+Inv-loop text at run i₀ i =
+    (at ≤ i) × (i ≤ length text) × (at + runOf run (drop at text) ≡ i + runOf run (drop i text))
+
+abbrev μ-loop : tie.MeasureT-loop
+μ-loop text at run i₀ i = length text - i
+
+loop-holds : tie.Need-loop-holds Inv-loop μ-loop
+loop-holds c = (omega arith, omega arith, refl)
+
+shared-slice-read-goes-on : tie.Need-shared-slice-read-goes-on Inv-loop μ-loop
+shared-slice-read-goes-on c = search needs
+
+goes-on-requires : tie.Need-goes-on-requires Inv-loop μ-loop
+goes-on-requires c κs = search needs
+
+returns : tie.Need-returns Inv-loop μ-loop
+returns c =
+    let at = c .before .before .before .before .loop in
+    let args = c .before .before .before .before .before .before .args in
+    let stop = run-stops (args .run) (args .text .now) (at .i) (omega arith) (sym (c .before .goes-on .ensures) ∙ not-true _ (c .if1 .taken)) in
+    (omega (arith, at .inv .2, stop), (omega arith, omega arith))
+
+add-i : tie.Need-add-i Inv-loop μ-loop
+add-i c = search needs
+
+loop-less : tie.Need-loop-less Inv-loop μ-loop
+loop-less c = omega arith
+
+loop-again : tie.Need-loop-again Inv-loop μ-loop
+loop-again c =
+    let at = c .before .before .before .before .loop in
+    let args = c .before .before .before .before .before .before .args in
+    let more = run-more (args .run) (args .text .now) (at .i) (omega arith) (sym (c .before .goes-on .ensures) ∙ not-false _ (c .if1 .left)) in
+    (omega arith, omega arith, rw add-one (omega (arith, at .inv .2, more)))
+
+returns-2 : tie.Need-returns-2 Inv-loop μ-loop
+returns-2 c =
+    let at = c .before .loop in
+    let args = c .before .before .before .args in
+    let stop = run-ends (args .run) (args .text .now) (at .i) (c .loop-test .left) in
+    (omega (arith, at .inv .2, stop), (omega arith, omega arith))
+
+pub past-spec : {M : Type 1} → statement M
+past-spec =
+    tie.close
+    (tie.spec
+    Inv-loop
+    μ-loop
+    loop-holds
+    shared-slice-read-goes-on
+    goes-on-requires
+    returns
+    add-i
+    loop-less
+    loop-again
+    returns-2)

@@ -1,0 +1,6 @@
+pub mod Words
+pub mod Numbers
+pub mod Names
+pub mod Fields
+pub mod Lines
+pub mod Packing
