@@ -2,22 +2,19 @@
 use crate::Answer;
 use crate::Outcome;
 use crate::Phase;
+use crate::Sizes;
 use crate::Slot;
 use crate::State;
 use crate::Thread;
+use crate::parts::position;
+use crate::parts::slot_at;
 ghost use mathlib.Core.Path.{_≡_};
+ghost use mathlib.Core.Bool.{cond};
 ghost use Prim.Native.Nat.{_+_, _*_, _<_, _≤_};
-ghost use lib.ListN.{length};
-ghost use Rattle.machine.specs.Parts.{positionOf, slotAt};
-ghost use Rattle.machine.specs.Calls.{firstOn, nextFree, expected, takeOf, protectOf, swapOf, readOf, retireOf, clearOf};
-
-// "A slot's position is thread × H + slot"
-pub(crate) fn position(thread: u8, slots: u8, slot: u8) -> u8
-    requires { ⌜ thread * slots + slot < 32 ⌝ }
-    ensures { λ r. ⌜ r ≡ thread * slots + slot ⌝ }
-{
-    thread * slots + slot
-}
+ghost use lib.ListN.{length, getD};
+ghost use lib.Dec.{eqb};
+ghost use Rattle.machine.specs.Parts.{emptySlot, positionOf, slotAt};
+ghost use Rattle.machine.specs.Calls.{firstOn, nextFree, takeOf, protectOf, swapOf, readOf, retireOf, clearOf};
 
 // The number of the first mark that is on; 0 where none is.
 pub(crate) fn first_on(marks: &[bool; 240]) -> u8
@@ -33,6 +30,18 @@ pub(crate) fn first_on(marks: &[bool; 240]) -> u8
         k += 1;
     }
     0
+}
+
+// what the link must hold for a swap: "the slot's object (255: holds 0)"
+fn wanted(sizes: Sizes, slots: [Slot; 32], thread: u8, slot: u8) -> u8
+    requires { ⌜ ((slot ≡ 255 → ⊥) → thread * sizes .slots + slot < 32) ⌝ }
+    ensures { λ r. ⌜ r ≡ cond (eqb slot 255) 0 ((getD slots (thread * sizes .slots + slot) emptySlot) .hazard) ⌝ }
+{
+    if slot == 255 {
+        return 0;
+    }
+    let held = slot_at(slots, position(thread, sizes.slots, slot));
+    held.hazard
 }
 
 impl State {
@@ -79,19 +88,6 @@ impl State {
         }
     }
 
-    // what the link must hold for a swap: "the slot's object (255: holds 0)"
-    fn wanted(self, thread: u8, slot: u8) -> u8
-        requires { ⌜ ((slot ≡ 255 → ⊥) → positionOf self thread slot < 32) ⌝ }
-        ensures { λ r. ⌜ r ≡ expected self thread slot ⌝ }
-    {
-        if slot == 255 {
-            return 0;
-        }
-        let p = position(thread, self.sizes.slots, slot) as usize;
-        let held = self.slots[p];
-        held.hazard
-    }
-
     // swap: "if the link holds the slot's object (255: holds 0), link and hand change places"
     pub(crate) fn swap(self, thread: u8, slot: u8, link: u8) -> Outcome
         requires { ⌜ (thread < 8) × (link < 16) ⌝ }
@@ -100,8 +96,9 @@ impl State {
     {
         let l = link as usize;
         let there = self.links[l];
-        let wanted = self.wanted(thread, slot);
-        if there != wanted {
+        let sizes = self.sizes;
+        let slots = self.slots;
+        if there != wanted(sizes, slots, thread, slot) {
             return Outcome {
                 state: self,
                 answer: Answer::Moved,

@@ -5,7 +5,7 @@ use crate::Phase;
 use crate::Slot;
 use crate::State;
 use crate::Thread;
-use crate::calls::position;
+use crate::parts::position;
 ghost use mathlib.Core.Path.{_≡_};
 ghost use mathlib.Core.Bool.{true};
 ghost use Prim.Native.Nat.{_<_, _≤_};

@@ -4,6 +4,7 @@ mod count;
 mod entries;
 mod fresh;
 mod go_on;
+mod parts;
 mod ranges;
 mod refusals;
 mod soundness;

@@ -1,21 +1,24 @@
 // "The first that applies is given, in this order, and never otherwise."
 use crate::Call;
 use crate::Sizes;
+use crate::Slot;
 use crate::State;
 use crate::Thread;
 use crate::calls::first_on;
-use crate::calls::position;
+use crate::parts::position;
+use crate::parts::slot_at;
 use crate::ranges::is_idle;
 ghost use mathlib.Core.Path.{_≡_};
 ghost use mathlib.Core.Bool.{true, not, _&&_, _||_};
 ghost use mathlib.Core.List.{[], _∷_};
-ghost use Prim.Native.Nat.{_<_};
+ghost use Prim.Native.Nat.{_+_, _*_, _<_};
+ghost use lib.ListN.{length, getD};
 ghost use lib.Dec.{ltb, eqb};
 ghost use Rattle.machine.specs.Sizes.{within};
-ghost use Rattle.machine.specs.Parts.{positionOf};
+ghost use Rattle.machine.specs.Parts.{emptySlot};
 ghost use Rattle.machine.specs.Phases.{isIdle};
-ghost use Rattle.machine.specs.Calls.{nextFree};
-ghost use Rattle.machine.specs.Refusals.{usesSlot, usesLink, usesTag, unusedNotZero, withoutSlot, protectedAt, _when_, firstOf, refusalOf};
+ghost use Rattle.machine.specs.Calls.{firstOn};
+ghost use Rattle.machine.specs.Refusals.{usesSlot, usesLink, usesTag, unusedNotZero, withoutSlot, _when_, firstOf, refusalOf};
 
 // the column "Uses"
 
@@ -113,32 +116,33 @@ fn reads_slot(call: Call) -> bool
     ((call.operation == 3) & !without_slot(call)) | (call.operation == 4)
 }
 
+// "swap with a slot, or read: slot not protected"
+fn unprotected(sizes: Sizes, slots: [Slot; 32], call: Call) -> bool
+    requires { ⌜ (((eqb (call .operation) 3 && not (withoutSlot call)) || eqb (call .operation) 4) ≡ true →
+        call .thread * sizes .slots + call .slot < 32) ⌝ }
+    ensures { λ r. ⌜ r ≡
+        (((eqb (call .operation) 3 && not (withoutSlot call)) || eqb (call .operation) 4) &&
+        not ((getD slots (call .thread * sizes .slots + call .slot) emptySlot) .mark)) ⌝ }
+{
+    if !reads_slot(call) {
+        return false;
+    }
+    let held = slot_at(slots, position(call.thread, sizes.slots, call.slot));
+    !held.mark
+}
+
+// "take: no object free"
+fn none_free(operation: u8, free: &[bool; 240]) -> bool
+    requires { ⌜ length (now free) ≡ 240 ⌝ }
+    ensures { λ r. ⌜ r ≡ (eqb operation 1 && eqb (firstOn 0 (now (free .entry))) 0) ⌝ }
+{
+    if operation != 1 {
+        return false;
+    }
+    first_on(free) == 0
+}
+
 impl State {
-    // "swap with a slot, or read: slot not protected"
-    fn unprotected(self, call: Call) -> bool
-        requires { ⌜ (((eqb (call .operation) 3 && not (withoutSlot call)) || eqb (call .operation) 4) ≡ true →
-            positionOf self (call .thread) (call .slot) < 32) ⌝ }
-        ensures { λ r. ⌜ r ≡
-            (((eqb (call .operation) 3 && not (withoutSlot call)) || eqb (call .operation) 4) && not (protectedAt self call)) ⌝ }
-    {
-        if !reads_slot(call) {
-            return false;
-        }
-        let p = position(call.thread, self.sizes.slots, call.slot) as usize;
-        let held = self.slots[p];
-        !held.mark
-    }
-
-    // "take: no object free"
-    fn none_free(self, operation: u8) -> bool
-        ensures { λ r. ⌜ r ≡ (eqb operation 1 && eqb (nextFree self) 0) ⌝ }
-    {
-        if operation != 1 {
-            return false;
-        }
-        first_on(&self.free) == 0
-    }
-
     // The number of the first line that applies; 0 where none does.
     pub(crate) fn refusal(self, call: Call) -> u8
         ensures { λ r. ⌜ r ≡ refusalOf self call ⌝ }
@@ -157,10 +161,11 @@ impl State {
         if busy != 0 {
             return busy;
         }
-        if self.unprotected(call) {
+        let slots = self.slots;
+        if unprotected(sizes, slots, call) {
             return 31;
         }
-        if self.none_free(call.operation) {
+        if none_free(call.operation, &self.free) {
             return 30;
         }
         0

@@ -4,7 +4,8 @@ use mathlib.Core.Path.{_≡_, sym, _∙_}
 use lib.ListN.{drop}
 use borrow.Author.Needs.{needs}
 use Rattle.machine.specs.Soundness.{sound}
-use Rattle.machine.specs.Refusals.{firstOf, refusalOf}
+use Rattle.machine.specs.Calls.{nextFree}
+use Rattle.machine.specs.Refusals.{firstOf, protectedAt, refusalOf}
 use Rattle.machine.proofs.Flags.{refused, passed}
 use Rattle.machine.proofs.Bounds.{thread-limited, position-limited}
 use Rattle.machine.proofs.Table.{NoneApplies, fieldRows, objectRows, settled, fields-pass, unsound, by-fields, by-threads, after-threads}
@@ -25,9 +26,9 @@ past-29 c =
     after-threads (c .before .before .before .before .before .before .before .before .before .args .t1) (c .before .before .before .before .before .before .before .before .before .args .call) (past-19 (c .before .before .before .before .before .before .before)) (past-25 (c .before .before .before .before))
     (settled _ _ (c .before .thread-refusal .ensures) (c .if3 .left))
 
-past-31 : (c : tie.Else4) → refusalOf (c .before .before .before .before .before .before .before .before .before .before .before .args .t1) (c .before .before .before .before .before .before .before .before .before .before .before .args .call) ≡ firstOf (drop 1 (objectRows (c .before .before .before .before .before .before .before .before .before .before .before .args .t1) (c .before .before .before .before .before .before .before .before .before .before .before .args .call)))
-unfolding firstOf
-past-31 c = past-29 (c .before .before) ∙ rw (← (c .before .unprotected .ensures), c .if4 .left)
+past-31 : (c : tie.Else4) → refusalOf (c .before .before .before .before .before .before .before .before .before .before .before .before .args .t1) (c .before .before .before .before .before .before .before .before .before .before .before .before .args .call) ≡ firstOf (drop 1 (objectRows (c .before .before .before .before .before .before .before .before .before .before .before .before .args .t1) (c .before .before .before .before .before .before .before .before .before .before .before .before .args .call)))
+unfolding firstOf protectedAt
+past-31 c = past-29 (c .before .before .before) ∙ rw (← (c .before .unprotected .ensures), c .if4 .left)
 
 is-sound-requires : tie.Need-is-sound-requires
 is-sound-requires c κs = search needs
@@ -72,29 +73,29 @@ returns-3 c =
 unprotected-requires : tie.Need-unprotected-requires
 unfolding NoneApplies
 unprotected-requires c κs =
-    let s = c .before .before .before .before .before .before .before .before .before .args .t1 in
-    let call = c .before .before .before .before .before .before .before .before .before .args .call in
-    let none = fields-pass (s .sizes) call (past-25 (c .before .before .before .before)) in
+    let s = c .before .before .before .before .before .before .before .before .before .before .args .t1 in
+    let call = c .before .before .before .before .before .before .before .before .before .before .args .call in
+    let none = fields-pass (s .sizes) call (past-25 (c .before .before .before .before .before)) in
     λ reads.
     let named = names-slot call reads in
-    position-limited s (past-19 (c .before .before .before .before .before .before .before)) (call .thread) (call .slot)
+    position-limited s (past-19 (c .before .before .before .before .before .before .before .before)) (call .thread) (call .slot)
     (thread-below (call .thread) (s .sizes .threads) (none .0))
     (slot-below call (s .sizes .slots) (none .1 .1 .1 .0) (named .0) (named .1))
 
 returns-4 : tie.Need-returns-4
-unfolding firstOf
-returns-4 c = sym (past-29 (c .before .before) ∙ rw (← (c .before .unprotected .ensures), c .if4 .taken))
+unfolding firstOf protectedAt
+returns-4 c = sym (past-29 (c .before .before .before) ∙ rw (← (c .before .unprotected .ensures), c .if4 .taken))
 
 none-free-requires : tie.Need-none-free-requires
 none-free-requires c κs = search needs
 
 returns-5 : tie.Need-returns-5
-unfolding firstOf
-returns-5 c = sym (past-31 (c .before .before) ∙ rw (← (c .before .none-free .ensures), c .if5 .taken))
+unfolding firstOf nextFree
+returns-5 c = sym (past-31 (c .before .before .before .before) ∙ rw (← (c .before .none-free .ensures), c .if5 .taken))
 
 returns-6 : tie.Need-returns-6
-unfolding firstOf
-returns-6 c = sym (past-31 (c .before .before) ∙ rw (← (c .before .none-free .ensures), c .if5 .left))
+unfolding firstOf nextFree
+returns-6 c = sym (past-31 (c .before .before .before .before) ∙ rw (← (c .before .none-free .ensures), c .if5 .left))
 
 pub refusal-spec : {M : Type 1} → statement M
 refusal-spec =

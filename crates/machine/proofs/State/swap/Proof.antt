@@ -1,7 +1,7 @@
 -- `swap` does what the table says of it, by whether the link holds what it must.
 use borrow.Author.Tests.{eq-eqb, ne-eqb}
 use borrow.Author.Needs.{needs}
-use Rattle.machine.specs.Calls.{swapOf}
+use Rattle.machine.specs.Calls.{expected, swapOf}
 use Rattle.machine.proofs.State.swap.Statement.{statement}
 use Rattle.machine.proofs.State.swap.Tie as tie
 
@@ -12,7 +12,7 @@ wanted-requires : tie.Need-wanted-requires
 wanted-requires c κs = search needs
 
 returns : tie.Need-returns
-unfolding swapOf
+unfolding swapOf expected
 returns c = rw (← (c .before .wanted .ensures), ne-eqb _ _ (c .if1 .taken))
 
 mul-me : tie.Need-mul-me
@@ -31,7 +31,7 @@ element-write-next : tie.Need-element-write-next
 element-write-next c = search needs
 
 returns-2 : tie.Need-returns-2
-unfolding swapOf
+unfolding swapOf expected
 returns-2 c = rw (← (c .before .before .wanted .ensures), eq-eqb _ _ (c .before .if1 .left))
 
 pub swap-spec : {M : Type 1} → statement M
