@@ -4,3 +4,5 @@ pub mod Names
 pub mod Fields
 pub mod Lines
 pub mod Packing
+pub mod Worked
+pub mod Promise

@@ -27,16 +27,16 @@ wrong why place word = Bad (record { why = why; place = place; word = word })
 
 -- a field's value goes on to the rest of the line; where it has none the line is wrong there
 
-abbrev pub withByte : Place → Word → Byte → (ℕ → Line) → Line
+unfoldable pub withByte : Place → Word → Byte → (ℕ → Line) → Line
 withByte place word (byte.Value v) rest = rest v
 withByte place word (byte.Bad why) rest = wrong why place word
 
-abbrev pub withNumber : Place → Word → Number → (ℕ → Line) → Line
+unfoldable pub withNumber : Place → Word → Number → (ℕ → Line) → Line
 withNumber place word (number.Value v) rest = rest v
 withNumber place word (number.Bad why) rest = wrong why place word
 
 -- a word after the last field is one too many
-abbrev pub withoutMore : Place → Word → Line → Line
+unfoldable pub withoutMore : Place → Word → Line → Line
 withoutMore place word line = cond (ltb (word .from) (word .to)) (wrong TooMany place word) line
 
 -- "a line of four sizes"

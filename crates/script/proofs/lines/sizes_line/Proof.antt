@@ -3,7 +3,7 @@ use borrow.Author.Needs.{needs}
 use borrow.Author.Tests.{lt-ltb, le-ltb}
 use mathlib.Core.Path.{sym, _∙_}
 use Rattle.script.specs.Words.{wordOf}
-use Rattle.script.specs.Lines.{sizesLine}
+use Rattle.script.specs.Lines.{withByte, withoutMore, sizesLine}
 use Rattle.script.proofs.lines.sizes_line.Statement.{statement}
 use Rattle.script.proofs.lines.sizes_line.Tie as tie
 
@@ -26,7 +26,7 @@ bad-requires : tie.Need-bad-requires
 bad-requires c κs = search needs
 
 returns : tie.Need-returns
-unfolding sizesLine wordOf
+unfolding sizesLine wordOf withByte withoutMore
 returns c =
     simp (sym (c .before .before .before .before .before .before .word-at .ensures .0), sym (c .before .before .before .before .before .bytes-of .ensures), sym (c .before .before .before .before .byte .ensures) ∙ c .before .before .found12 .given .1, c .bad .ensures)
 
@@ -49,7 +49,7 @@ bad-requires-2 : tie.Need-bad-requires-2
 bad-requires-2 c κs = search needs
 
 returns-2 : tie.Need-returns-2
-unfolding sizesLine wordOf
+unfolding sizesLine wordOf withByte withoutMore
 returns-2 c =
     simp (sym (c .before .before .before .before .before .before .before .before .before .before .before .before .word-at .ensures .0), sym (c .before .before .before .before .before .before .before .before .before .before .before .bytes-of .ensures), sym (c .before .before .before .before .before .before .before .before .before .before .byte .ensures) ∙ c .before .before .before .before .before .before .before .before .found1 .given .1)
     (simp (sym (c .before .before .before .before .before .before .word-at2 .ensures .0), sym (c .before .before .before .before .before .bytes-of2 .ensures), sym (c .before .before .before .before .byte2 .ensures) ∙ c .before .before .found22 .given .1, c .bad2 .ensures))
@@ -73,7 +73,7 @@ bad-requires-3 : tie.Need-bad-requires-3
 bad-requires-3 c κs = search needs
 
 returns-3 : tie.Need-returns-3
-unfolding sizesLine wordOf
+unfolding sizesLine wordOf withByte withoutMore
 returns-3 c =
     simp (sym (c .before .before .before .before .before .before .before .before .before .before .before .before .before .before .before .before .before .before .word-at .ensures .0), sym (c .before .before .before .before .before .before .before .before .before .before .before .before .before .before .before .before .before .bytes-of .ensures), sym (c .before .before .before .before .before .before .before .before .before .before .before .before .before .before .before .before .byte .ensures) ∙ c .before .before .before .before .before .before .before .before .before .before .before .before .before .before .found1 .given .1)
     (simp (sym (c .before .before .before .before .before .before .before .before .before .before .before .before .word-at2 .ensures .0), sym (c .before .before .before .before .before .before .before .before .before .before .before .bytes-of2 .ensures), sym (c .before .before .before .before .before .before .before .before .before .before .byte2 .ensures) ∙ c .before .before .before .before .before .before .before .before .found2 .given .1)
@@ -98,7 +98,7 @@ bad-requires-4 : tie.Need-bad-requires-4
 bad-requires-4 c κs = search needs
 
 returns-4 : tie.Need-returns-4
-unfolding sizesLine wordOf
+unfolding sizesLine wordOf withByte withoutMore
 returns-4 c =
     simp (sym (c .before .before .before .before .before .before .before .before .before .before .before .before .before .before .before .before .before .before .before .before .before .before .before .before .word-at .ensures .0), sym (c .before .before .before .before .before .before .before .before .before .before .before .before .before .before .before .before .before .before .before .before .before .before .before .bytes-of .ensures), sym (c .before .before .before .before .before .before .before .before .before .before .before .before .before .before .before .before .before .before .before .before .before .before .byte .ensures) ∙ c .before .before .before .before .before .before .before .before .before .before .before .before .before .before .before .before .before .before .before .before .found1 .given .1)
     (simp (sym (c .before .before .before .before .before .before .before .before .before .before .before .before .before .before .before .before .before .before .word-at2 .ensures .0), sym (c .before .before .before .before .before .before .before .before .before .before .before .before .before .before .before .before .before .bytes-of2 .ensures), sym (c .before .before .before .before .before .before .before .before .before .before .before .before .before .before .before .before .byte2 .ensures) ∙ c .before .before .before .before .before .before .before .before .before .before .before .before .before .before .found2 .given .1)
@@ -112,7 +112,7 @@ bad-requires-5 : tie.Need-bad-requires-5
 bad-requires-5 c κs = search needs
 
 returns-5 : tie.Need-returns-5
-unfolding sizesLine wordOf
+unfolding sizesLine wordOf withByte withoutMore
 returns-5 c =
     simp (sym (c .before .before .before .before .before .before .before .before .before .before .before .before .before .before .before .before .before .before .before .before .before .before .before .before .before .before .before .word-at .ensures .0), sym (c .before .before .before .before .before .before .before .before .before .before .before .before .before .before .before .before .before .before .before .before .before .before .before .before .before .before .bytes-of .ensures), sym (c .before .before .before .before .before .before .before .before .before .before .before .before .before .before .before .before .before .before .before .before .before .before .before .before .before .byte .ensures) ∙ c .before .before .before .before .before .before .before .before .before .before .before .before .before .before .before .before .before .before .before .before .before .before .before .found1 .given .1)
     (simp (sym (c .before .before .before .before .before .before .before .before .before .before .before .before .before .before .before .before .before .before .before .before .before .word-at2 .ensures .0), sym (c .before .before .before .before .before .before .before .before .before .before .before .before .before .before .before .before .before .before .before .before .bytes-of2 .ensures), sym (c .before .before .before .before .before .before .before .before .before .before .before .before .before .before .before .before .before .before .before .byte2 .ensures) ∙ c .before .before .before .before .before .before .before .before .before .before .before .before .before .before .before .before .before .found2 .given .1)
@@ -121,7 +121,7 @@ returns-5 c =
     (simp (sym (c .before .before .before .word-at5 .ensures .0), lt-ltb _ _ (c .before .if1 .taken), c .bad5 .ensures)))))
 
 returns-6 : tie.Need-returns-6
-unfolding sizesLine wordOf
+unfolding sizesLine wordOf withByte withoutMore
 returns-6 c =
     simp (sym (c .before .before .before .before .before .before .before .before .before .before .before .before .before .before .before .before .before .before .before .before .before .before .before .before .before .before .word-at .ensures .0), sym (c .before .before .before .before .before .before .before .before .before .before .before .before .before .before .before .before .before .before .before .before .before .before .before .before .before .bytes-of .ensures), sym (c .before .before .before .before .before .before .before .before .before .before .before .before .before .before .before .before .before .before .before .before .before .before .before .before .byte .ensures) ∙ c .before .before .before .before .before .before .before .before .before .before .before .before .before .before .before .before .before .before .before .before .before .before .found1 .given .1)
     (simp (sym (c .before .before .before .before .before .before .before .before .before .before .before .before .before .before .before .before .before .before .before .before .word-at2 .ensures .0), sym (c .before .before .before .before .before .before .before .before .before .before .before .before .before .before .before .before .before .before .before .bytes-of2 .ensures), sym (c .before .before .before .before .before .before .before .before .before .before .before .before .before .before .before .before .before .before .byte2 .ensures) ∙ c .before .before .before .before .before .before .before .before .before .before .before .before .before .before .before .before .found2 .given .1)

@@ -3,7 +3,7 @@ use borrow.Author.Needs.{needs}
 use borrow.Author.Tests.{lt-ltb, le-ltb}
 use mathlib.Core.Path.{sym, _∙_}
 use Rattle.script.specs.Words.{wordOf}
-use Rattle.script.specs.Lines.{stepLine}
+use Rattle.script.specs.Lines.{withByte, withNumber, withoutMore, stepLine}
 use Rattle.script.proofs.lines.step_line.Statement.{statement}
 use Rattle.script.proofs.lines.step_line.Tie as tie
 
@@ -26,7 +26,7 @@ bad-requires : tie.Need-bad-requires
 bad-requires c κs = search needs
 
 returns : tie.Need-returns
-unfolding stepLine wordOf
+unfolding stepLine wordOf withByte withNumber withoutMore
 returns c =
     simp (sym (c .before .before .before .before .before .before .word-at .ensures .0), sym (c .before .before .before .before .before .bytes-of .ensures), sym (c .before .before .before .before .byte .ensures) ∙ c .before .before .found12 .given .1, c .bad .ensures)
 
@@ -49,7 +49,7 @@ bad-requires-2 : tie.Need-bad-requires-2
 bad-requires-2 c κs = search needs
 
 returns-2 : tie.Need-returns-2
-unfolding stepLine wordOf
+unfolding stepLine wordOf withByte withNumber withoutMore
 returns-2 c =
     simp (sym (c .before .before .before .before .before .before .before .before .before .before .before .before .word-at .ensures .0), sym (c .before .before .before .before .before .before .before .before .before .before .before .bytes-of .ensures), sym (c .before .before .before .before .before .before .before .before .before .before .byte .ensures) ∙ c .before .before .before .before .before .before .before .before .found1 .given .1)
     (simp (sym (c .before .before .before .before .before .before .word-at2 .ensures .0), sym (c .before .before .before .before .before .bytes-of2 .ensures), sym (c .before .before .before .before .operation-of .ensures) ∙ c .before .before .found22 .given .1, c .bad2 .ensures))
@@ -73,7 +73,7 @@ bad-requires-3 : tie.Need-bad-requires-3
 bad-requires-3 c κs = search needs
 
 returns-3 : tie.Need-returns-3
-unfolding stepLine wordOf
+unfolding stepLine wordOf withByte withNumber withoutMore
 returns-3 c =
     simp (sym (c .before .before .before .before .before .before .before .before .before .before .before .before .before .before .before .before .before .before .word-at .ensures .0), sym (c .before .before .before .before .before .before .before .before .before .before .before .before .before .before .before .before .before .bytes-of .ensures), sym (c .before .before .before .before .before .before .before .before .before .before .before .before .before .before .before .before .byte .ensures) ∙ c .before .before .before .before .before .before .before .before .before .before .before .before .before .before .found1 .given .1)
     (simp (sym (c .before .before .before .before .before .before .before .before .before .before .before .before .word-at2 .ensures .0), sym (c .before .before .before .before .before .before .before .before .before .before .before .bytes-of2 .ensures), sym (c .before .before .before .before .before .before .before .before .before .before .operation-of .ensures) ∙ c .before .before .before .before .before .before .before .before .found2 .given .1)
@@ -98,7 +98,7 @@ bad-requires-4 : tie.Need-bad-requires-4
 bad-requires-4 c κs = search needs
 
 returns-4 : tie.Need-returns-4
-unfolding stepLine wordOf
+unfolding stepLine wordOf withByte withNumber withoutMore
 returns-4 c =
     simp (sym (c .before .before .before .before .before .before .before .before .before .before .before .before .before .before .before .before .before .before .before .before .before .before .before .before .word-at .ensures .0), sym (c .before .before .before .before .before .before .before .before .before .before .before .before .before .before .before .before .before .before .before .before .before .before .before .bytes-of .ensures), sym (c .before .before .before .before .before .before .before .before .before .before .before .before .before .before .before .before .before .before .before .before .before .before .byte .ensures) ∙ c .before .before .before .before .before .before .before .before .before .before .before .before .before .before .before .before .before .before .before .before .found1 .given .1)
     (simp (sym (c .before .before .before .before .before .before .before .before .before .before .before .before .before .before .before .before .before .before .word-at2 .ensures .0), sym (c .before .before .before .before .before .before .before .before .before .before .before .before .before .before .before .before .before .bytes-of2 .ensures), sym (c .before .before .before .before .before .before .before .before .before .before .before .before .before .before .before .before .operation-of .ensures) ∙ c .before .before .before .before .before .before .before .before .before .before .before .before .before .before .found2 .given .1)
@@ -124,7 +124,7 @@ bad-requires-5 : tie.Need-bad-requires-5
 bad-requires-5 c κs = search needs
 
 returns-5 : tie.Need-returns-5
-unfolding stepLine wordOf
+unfolding stepLine wordOf withByte withNumber withoutMore
 returns-5 c =
     simp (sym (c .before .before .before .before .before .before .before .before .before .before .before .before .before .before .before .before .before .before .before .before .before .before .before .before .before .before .before .before .before .before .word-at .ensures .0), sym (c .before .before .before .before .before .before .before .before .before .before .before .before .before .before .before .before .before .before .before .before .before .before .before .before .before .before .before .before .before .bytes-of .ensures), sym (c .before .before .before .before .before .before .before .before .before .before .before .before .before .before .before .before .before .before .before .before .before .before .before .before .before .before .before .before .byte .ensures) ∙ c .before .before .before .before .before .before .before .before .before .before .before .before .before .before .before .before .before .before .before .before .before .before .before .before .before .before .found1 .given .1)
     (simp (sym (c .before .before .before .before .before .before .before .before .before .before .before .before .before .before .before .before .before .before .before .before .before .before .before .before .word-at2 .ensures .0), sym (c .before .before .before .before .before .before .before .before .before .before .before .before .before .before .before .before .before .before .before .before .before .before .before .bytes-of2 .ensures), sym (c .before .before .before .before .before .before .before .before .before .before .before .before .before .before .before .before .before .before .before .before .before .before .operation-of .ensures) ∙ c .before .before .before .before .before .before .before .before .before .before .before .before .before .before .before .before .before .before .before .before .found2 .given .1)
@@ -139,7 +139,7 @@ bad-requires-6 : tie.Need-bad-requires-6
 bad-requires-6 c κs = search needs
 
 returns-6 : tie.Need-returns-6
-unfolding stepLine wordOf
+unfolding stepLine wordOf withByte withNumber withoutMore
 returns-6 c =
     simp (sym (c .before .before .before .before .before .before .before .before .before .before .before .before .before .before .before .before .before .before .before .before .before .before .before .before .before .before .before .before .before .before .before .before .before .word-at .ensures .0), sym (c .before .before .before .before .before .before .before .before .before .before .before .before .before .before .before .before .before .before .before .before .before .before .before .before .before .before .before .before .before .before .before .before .bytes-of .ensures), sym (c .before .before .before .before .before .before .before .before .before .before .before .before .before .before .before .before .before .before .before .before .before .before .before .before .before .before .before .before .before .before .before .byte .ensures) ∙ c .before .before .before .before .before .before .before .before .before .before .before .before .before .before .before .before .before .before .before .before .before .before .before .before .before .before .before .before .before .found1 .given .1)
     (simp (sym (c .before .before .before .before .before .before .before .before .before .before .before .before .before .before .before .before .before .before .before .before .before .before .before .before .before .before .before .word-at2 .ensures .0), sym (c .before .before .before .before .before .before .before .before .before .before .before .before .before .before .before .before .before .before .before .before .before .before .before .before .before .before .bytes-of2 .ensures), sym (c .before .before .before .before .before .before .before .before .before .before .before .before .before .before .before .before .before .before .before .before .before .before .before .before .before .operation-of .ensures) ∙ c .before .before .before .before .before .before .before .before .before .before .before .before .before .before .before .before .before .before .before .before .before .before .before .found2 .given .1)
@@ -149,7 +149,7 @@ returns-6 c =
     (simp (sym (c .before .before .before .word-at6 .ensures .0), lt-ltb _ _ (c .before .if1 .taken), c .bad6 .ensures))))))
 
 returns-7 : tie.Need-returns-7
-unfolding stepLine wordOf
+unfolding stepLine wordOf withByte withNumber withoutMore
 returns-7 c =
     simp (sym (c .before .before .before .before .before .before .before .before .before .before .before .before .before .before .before .before .before .before .before .before .before .before .before .before .before .before .before .before .before .before .before .before .word-at .ensures .0), sym (c .before .before .before .before .before .before .before .before .before .before .before .before .before .before .before .before .before .before .before .before .before .before .before .before .before .before .before .before .before .before .before .bytes-of .ensures), sym (c .before .before .before .before .before .before .before .before .before .before .before .before .before .before .before .before .before .before .before .before .before .before .before .before .before .before .before .before .before .before .byte .ensures) ∙ c .before .before .before .before .before .before .before .before .before .before .before .before .before .before .before .before .before .before .before .before .before .before .before .before .before .before .before .before .found1 .given .1)
     (simp (sym (c .before .before .before .before .before .before .before .before .before .before .before .before .before .before .before .before .before .before .before .before .before .before .before .before .before .before .word-at2 .ensures .0), sym (c .before .before .before .before .before .before .before .before .before .before .before .before .before .before .before .before .before .before .before .before .before .before .before .before .before .bytes-of2 .ensures), sym (c .before .before .before .before .before .before .before .before .before .before .before .before .before .before .before .before .before .before .before .before .before .before .before .before .operation-of .ensures) ∙ c .before .before .before .before .before .before .before .before .before .before .before .before .before .before .before .before .before .before .before .before .before .before .found2 .given .1)
