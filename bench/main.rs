@@ -9,7 +9,6 @@ mod schedules;
 
 use plain::Sizes;
 use schedules::{schedule, Schedule};
-use std::hint::black_box;
 use std::time::{Duration, Instant};
 
 const STEPS: usize = 6000;
@@ -33,6 +32,12 @@ fn proved(input: &[u8]) -> u64 {
 fn proved_text(input: &[u8], out: &mut [u8]) -> usize {
     // SAFETY: each pointer and length are one slice's; the function reads the first and writes within the second.
     unsafe { drive_text(input.as_ptr(), input.len(), out.as_mut_ptr(), out.len()) }
+}
+
+/// The value, of which the compiler knows nothing: `std::hint::black_box` for a compiler that has none yet.
+fn black_box<T: Copy>(value: T) -> T {
+    // SAFETY: the pointer is a live local's.
+    unsafe { std::ptr::read_volatile(&value) }
 }
 
 fn of(objects: u8) -> Schedule {
@@ -97,10 +102,10 @@ fn all() {
     table("The machine: every call, with its soundness check", |made| {
         fastest(
             || {
-                black_box(proved(black_box(&made.input)));
+                black_box(proved(black_box(&made.input[..])));
             },
             || {
-                black_box(records::checksum(black_box(&made.input)));
+                black_box(records::checksum(black_box(&made.input[..])));
             },
         )
     });
@@ -129,11 +134,11 @@ fn whole_text() {
     table("The whole program, input bytes to text (the same bytes from both)", |made| {
         fastest(
             || {
-                black_box(proved_text(black_box(&made.input), &mut ours));
+                black_box(proved_text(black_box(&made.input[..]), &mut ours));
             },
             || {
                 plains.clear();
-                records::text(black_box(&made.input), &mut plains);
+                records::text(black_box(&made.input[..]), &mut plains);
                 black_box(plains.len());
             },
         )
@@ -145,13 +150,13 @@ fn count(which: &str, objects: u8, times: usize) {
     let mut text = vec![0; 240_080];
     for _ in 0..times {
         let result = match which {
-            "proved" => proved(black_box(&made.input)),
-            "plain" => records::checksum(black_box(&made.input)),
+            "proved" => proved(black_box(&made.input[..])),
+            "plain" => records::checksum(black_box(&made.input[..])),
             #[cfg(text)]
-            "proved-text" => proved_text(black_box(&made.input), &mut text) as u64,
+            "proved-text" => proved_text(black_box(&made.input[..]), &mut text) as u64,
             "plain-text" => {
                 text.clear();
-                records::text(black_box(&made.input), &mut text);
+                records::text(black_box(&made.input[..]), &mut text);
                 text.len() as u64
             }
             _ => {

@@ -75,17 +75,17 @@ fn sensible(random: &mut Random, state: &State) -> Call {
         (0, _) if kind < 30 && state.free.contains(&true) => {
             call = Call { operation: 1, slot: 0, link: 0, tag: u32::from(random.below(250)) << 16 | u32::from(kind), ..call };
         }
-        (_, true) if kind < 45 => call = Call { operation: 4, link: 0, ..call },
-        (_, true) if kind < 65 => call = Call { operation: 6, link: 0, ..call },
-        (hand, _) if hand != 0 && at_link == 0 => call = Call { operation: 3, slot: 255, ..call },
-        (hand, true) if hand != 0 && kind < 90 => {
-            // the link from which the slot's object came, where it still stands in one
+        (_, true) if kind < 40 => call = Call { operation: 4, link: 0, ..call },
+        (_, true) if kind < 60 => call = Call { operation: 6, link: 0, ..call },
+        (hand, _) if hand != 0 && at_link == 0 && kind < 80 => call = Call { operation: 3, slot: 255, ..call },
+        // what is in hand for the slot's object, where that still stands in a link; with an empty hand, the object is taken out
+        (_, true) if kind < 85 => {
             if let Some(link) = state.links.iter().position(|&object| object == held.hazard) {
                 call.link = link as u8;
             }
             call.operation = 3;
         }
-        (hand, _) if hand != 0 && kind < 35 => call = Call { operation: 5, slot: 0, link: 0, ..call },
+        (hand, _) if hand != 0 && kind < 90 => call = Call { operation: 5, slot: 0, link: 0, ..call },
         (_, false) if held.handover != 0 && kind < 60 => call = Call { operation: 6, link: 0, ..call },
         _ => call.operation = 2,
     }
