@@ -13,9 +13,11 @@ use std::time::{Duration, Instant};
 
 const STEPS: usize = 6000;
 const SEED: u64 = 0x5eed_0f0d_d0e5_2024;
+/// Bytes that every run's text fits in.
+const ROOM: usize = 240_080;
 const OBJECTS: [u8; 6] = [10, 30, 60, 120, 180, 240];
-/// Rounds a version and N; the fastest is kept, since nothing but other work on the machine makes a round slower.
-const ROUNDS: usize = 15;
+/// The fastest round is kept, since nothing but other work on the machine makes a round slower.
+const ROUNDS: usize = 25;
 
 extern "C" {
     fn drive_schedule(input: *const u8, len: usize) -> u64;
@@ -44,26 +46,29 @@ fn of(objects: u8) -> Schedule {
     schedule(Sizes { threads: 8, slots: 4, links: 16, objects }, STEPS, SEED)
 }
 
-fn nanoseconds_a_call(time: Duration) -> f64 {
-    time.as_nanos() as f64 / STEPS as f64
-}
+/// What is timed: the proved version, the plain one, and the plain one that looks at every entry.
+type Versions<'a> = [Box<dyn FnMut(&[u8]) + 'a>; 3];
 
-/// The fastest of the rounds for each, the two taking turns.
-fn fastest(mut one: impl FnMut(), mut other: impl FnMut()) -> (f64, f64) {
-    let mut best = (Duration::MAX, Duration::MAX);
+/// For each N the fastest round of each version, in nanoseconds a call. The versions take turns, and each round goes through every N,
+/// so that other work on the machine falls on all alike.
+fn fastest(mut versions: Versions) -> [[f64; 3]; OBJECTS.len()] {
+    let inputs = OBJECTS.map(|objects| of(objects).input);
+    let mut best = [[Duration::MAX; 3]; OBJECTS.len()];
     for _ in 0..ROUNDS {
-        let start = Instant::now();
-        one();
-        best.0 = best.0.min(start.elapsed());
-        let start = Instant::now();
-        other();
-        best.1 = best.1.min(start.elapsed());
+        for (input, row) in inputs.iter().zip(&mut best) {
+            for (version, time) in versions.iter_mut().zip(row) {
+                let start = Instant::now();
+                version(black_box(input));
+                *time = start.elapsed().min(*time);
+            }
+        }
     }
-    (nanoseconds_a_call(best.0), nanoseconds_a_call(best.1))
+    best.map(|row| row.map(|time| time.as_nanos() as f64 / STEPS as f64))
 }
 
 /// The slope of time over N by least squares: what one more object costs a call.
-fn slope(points: &[(f64, f64)]) -> f64 {
+fn slope(times: impl Iterator<Item = f64>) -> f64 {
+    let points: Vec<(f64, f64)> = OBJECTS.iter().map(|&objects| objects.into()).zip(times).collect();
     let n = points.len() as f64;
     let (x, y) = points.iter().fold((0.0, 0.0), |(x, y), p| (x + p.0 / n, y + p.1 / n));
     let above: f64 = points.iter().map(|p| (p.0 - x) * (p.1 - y)).sum();
@@ -73,7 +78,7 @@ fn slope(points: &[(f64, f64)]) -> f64 {
 
 /// Both versions on one schedule; a difference ends the program.
 fn compare(objects: u8, made: &Schedule) {
-    let (a, b) = (proved(&made.input), records::checksum(&made.input));
+    let (a, b) = (proved(&made.input), records::checksum::<false>(&made.input));
     if a != b {
         eprintln!("bench: N {objects}: the proved machine's checksum is {a}, the plain one's {b}");
         std::process::exit(1);
@@ -82,33 +87,30 @@ fn compare(objects: u8, made: &Schedule) {
     println!("N {objects:3}  checksum {a} from both; answers: refused {refused}, taken {taken}, begun {begun}, working {working}, protected {protected}, nothing {nothing}, swapped {swapped}, moved {moved}, tag {tag}, finished {finished}, left {left}, freed {freed}");
 }
 
-fn table(title: &str, mut time: impl FnMut(&Schedule) -> (f64, f64)) {
+fn table(title: &str, versions: Versions) {
     println!("\n{title}, T 8, H 4, L 16, {STEPS} steps: ns a call, the fastest of {ROUNDS} rounds\n");
-    println!("   N    proved     plain    ratio");
-    let (mut ours, mut plains) = (vec![], vec![]);
-    for objects in OBJECTS {
-        let (one, other) = time(&of(objects));
-        println!("{objects:4} {one:9.1} {other:9.1} {:8.2}", one / other);
-        ours.push((f64::from(objects), one));
-        plains.push((f64::from(objects), other));
+    println!("   N    proved     plain    ratio     whole    ratio");
+    let times = fastest(versions);
+    for (objects, [proved, plain, whole]) in OBJECTS.iter().zip(times) {
+        println!("{objects:4} {proved:9.1} {plain:9.1} {:8.2} {whole:9.1} {:8.2}", proved / plain, proved / whole);
     }
-    println!("growth, ns for one more object: proved {:.2}, plain {:.2}", slope(&ours), slope(&plains));
+    let [proved, plain, whole] = [0, 1, 2].map(|version| slope(times.iter().map(|row| row[version])));
+    println!("growth, ns for one more object: proved {proved:.2}, plain {plain:.2}, whole {whole:.2}");
 }
 
 fn all() {
     for objects in OBJECTS {
         compare(objects, &of(objects));
     }
-    table("The machine: every call, with its soundness check", |made| {
-        fastest(
-            || {
-                black_box(proved(black_box(&made.input[..])));
-            },
-            || {
-                black_box(records::checksum(black_box(&made.input[..])));
-            },
-        )
-    });
+    println!("\nplain: the check leaves at the first entry that is wrong. whole: it looks at every entry, so that many are taken at once.");
+    table(
+        "The machine: every call, with its soundness check",
+        [
+            Box::new(|input| _ = black_box(proved(input))),
+            Box::new(|input| _ = black_box(records::checksum::<false>(input))),
+            Box::new(|input| _ = black_box(records::checksum::<true>(input))),
+        ],
+    );
     whole_text();
 }
 
@@ -119,44 +121,55 @@ fn whole_text() {
 
 #[cfg(text)]
 fn whole_text() {
-    let mut ours = vec![0; 240_080];
-    let mut plains = Vec::with_capacity(240_080);
+    let mut ours = vec![0; ROOM];
+    let mut plains = Vec::with_capacity(ROOM);
     for objects in OBJECTS {
         let made = of(objects);
         let written = proved_text(&made.input, &mut ours);
         plains.clear();
-        records::text(&made.input, &mut plains);
+        records::text::<false>(&made.input, &mut plains);
         if ours[..written] != plains[..] {
             eprintln!("bench: N {objects}: the two texts differ");
             std::process::exit(1);
         }
     }
-    table("The whole program, input bytes to text (the same bytes from both)", |made| {
-        fastest(
-            || {
-                black_box(proved_text(black_box(&made.input[..]), &mut ours));
-            },
-            || {
+    let (mut plains, mut wholes) = (plains, Vec::with_capacity(ROOM));
+    table(
+        "The whole program, input bytes to text (the same bytes from both)",
+        [
+            Box::new(|input| _ = black_box(proved_text(input, &mut ours))),
+            Box::new(|input| {
                 plains.clear();
-                records::text(black_box(&made.input[..]), &mut plains);
+                records::text::<false>(input, &mut plains);
                 black_box(plains.len());
-            },
-        )
-    });
+            }),
+            Box::new(|input| {
+                wholes.clear();
+                records::text::<true>(input, &mut wholes);
+                black_box(wholes.len());
+            }),
+        ],
+    );
 }
 
 fn count(which: &str, objects: u8, times: usize) {
     let made = of(objects);
-    let mut text = vec![0; 240_080];
+    let mut text = vec![0; ROOM];
     for _ in 0..times {
         let result = match which {
-            "proved" => proved(black_box(&made.input[..])),
-            "plain" => records::checksum(black_box(&made.input[..])),
+            "proved" => proved(black_box(&made.input)),
+            "plain" => records::checksum::<false>(black_box(&made.input)),
+            "whole" => records::checksum::<true>(black_box(&made.input)),
             #[cfg(text)]
-            "proved-text" => proved_text(black_box(&made.input[..]), &mut text) as u64,
+            "proved-text" => proved_text(black_box(&made.input), &mut text) as u64,
             "plain-text" => {
                 text.clear();
-                records::text(black_box(&made.input[..]), &mut text);
+                records::text::<false>(black_box(&made.input), &mut text);
+                text.len() as u64
+            }
+            "whole-text" => {
+                text.clear();
+                records::text::<true>(black_box(&made.input), &mut text);
                 text.len() as u64
             }
             _ => {

@@ -1,10 +1,21 @@
 //! The record machine in plain Rust, written from the scope page alone: the state is changed where it stands, and its soundness is
 //! checked before every call, as the rules say, with one count per object.
+//!
+//! `WHOLE` says how the check goes through the long arrays: false, as one writes it, leaving at the first entry that is wrong; true,
+//! looking at every entry, which lets the compiler take many at once.
 
 const THREADS: usize = 8;
 const SLOTS: usize = 4;
 const LINKS: usize = 16;
 const OBJECTS: usize = 240;
+
+fn every<const WHOLE: bool, T>(mut items: impl Iterator<Item = T>, good: impl Fn(T) -> bool) -> bool {
+    if WHOLE {
+        items.fold(true, |all, item| all & good(item))
+    } else {
+        items.all(good)
+    }
+}
 
 #[derive(Clone, Copy)]
 pub struct Sizes {
@@ -151,7 +162,7 @@ impl State {
         Some(state)
     }
 
-    pub fn sound(&self) -> bool {
+    pub fn sound<const WHOLE: bool>(&self) -> bool {
         let z = &self.sizes;
         if !z.in_range() && !z.blank() {
             return false;
@@ -191,9 +202,9 @@ impl State {
         }
         let n = z.objects as usize;
         let (free, beyond) = self.free.split_at(n);
-        free.iter().zip(&counts[1..]).all(|(&free, &count)| count + free as u8 == 1)
-            && beyond.iter().all(|&free| !free)
-            && self.tags[n..].iter().all(|&tag| tag == 0)
+        every::<WHOLE, _>(free.iter().zip(&counts[1..]), |(&free, &count)| count + free as u8 == 1)
+            && every::<WHOLE, _>(beyond.iter(), |&free| !free)
+            && every::<WHOLE, _>(self.tags[n..].iter(), |&tag| tag == 0)
     }
 
     fn position(&self, thread: u8, slot: u8) -> usize {
@@ -201,8 +212,8 @@ impl State {
     }
 
     /// The number of the first refusal that applies; 0 where none does.
-    fn refusal(&self, call: &Call) -> u8 {
-        if !self.sound() {
+    fn refusal<const WHOLE: bool>(&self, call: &Call) -> u8 {
+        if !self.sound::<WHOLE>() {
             return 19;
         }
         let z = &self.sizes;
@@ -243,8 +254,8 @@ impl State {
         }
     }
 
-    pub fn step(&mut self, call: &Call) -> Answer {
-        match self.refusal(call) {
+    pub fn step<const WHOLE: bool>(&mut self, call: &Call) -> Answer {
+        match self.refusal::<WHOLE>(call) {
             0 => self.accepted(call),
             number => Answer::Refused(number),
         }
@@ -354,8 +365,8 @@ impl State {
     }
 
     /// Objects free, in links, in hands, in handovers, carried; five zeros where the state is not sound.
-    pub fn count(&self) -> [u8; 5] {
-        if !self.sound() {
+    pub fn count<const WHOLE: bool>(&self) -> [u8; 5] {
+        if !self.sound::<WHOLE>() {
             return [0; 5];
         }
         let some = |object: u8| (object != 0) as u8;

@@ -34,7 +34,7 @@ pub fn schedule(sizes: Sizes, steps: usize, seed: u64) -> Schedule {
     for _ in 0..steps {
         let call = if random.percent(3) { any_call(&mut random, &sizes) } else { sensible(&mut random, &state) };
         write_step(&mut made.input, &call);
-        let answer = match state.step(&call) {
+        let answer = match state.step::<false>(&call) {
             Answer::Refused(_) => 0,
             answer => answer.numbers().0,
         };
