@@ -1,0 +1,381 @@
+//! The record machine in plain Rust, written from the scope page alone: the state is changed where it stands, and its soundness is
+//! checked before every call, as the rules say, with one count per object.
+//!
+//! `WHOLE` says how the check goes through the long arrays: false, as one writes it, leaving at the first entry that is wrong; true,
+//! looking at every entry, which lets the compiler take many at once.
+
+const THREADS: usize = 8;
+const SLOTS: usize = 4;
+const LINKS: usize = 16;
+const OBJECTS: usize = 240;
+
+fn every<const WHOLE: bool, T>(mut items: impl Iterator<Item = T>, good: impl Fn(T) -> bool) -> bool {
+    if WHOLE {
+        items.fold(true, |all, item| all & good(item))
+    } else {
+        items.all(good)
+    }
+}
+
+#[derive(Clone, Copy)]
+pub struct Sizes {
+    pub threads: u8,
+    pub slots: u8,
+    pub links: u8,
+    pub objects: u8,
+}
+
+impl Sizes {
+    fn in_range(&self) -> bool {
+        (1..=THREADS).contains(&(self.threads as usize))
+            && (1..=SLOTS).contains(&(self.slots as usize))
+            && (1..=LINKS).contains(&(self.links as usize))
+            && (1..=OBJECTS).contains(&(self.objects as usize))
+    }
+
+    fn blank(&self) -> bool {
+        self.threads == 0 && self.slots == 0 && self.links == 0 && self.objects == 0
+    }
+
+    fn positions(&self) -> u8 {
+        self.threads * self.slots
+    }
+}
+
+#[derive(Clone, Copy)]
+pub enum Phase {
+    Idle,
+    Loaded { slot: u8, link: u8, object: u8 },
+    Published { slot: u8, link: u8 },
+    Draining { slot: u8 },
+    Look { object: u8, position: u8 },
+    Swap { object: u8, position: u8 },
+}
+
+impl Phase {
+    pub fn idle(&self) -> bool {
+        matches!(self, Phase::Idle)
+    }
+
+    fn carried(&self) -> u8 {
+        match *self {
+            Phase::Look { object, .. } | Phase::Swap { object, .. } => object,
+            _ => 0,
+        }
+    }
+
+    fn in_range(&self, z: &Sizes) -> bool {
+        let one = |object: u8| object != 0 && object <= z.objects;
+        match *self {
+            Phase::Idle => true,
+            Phase::Loaded { slot, link, object } => slot < z.slots && link < z.links && object <= z.objects,
+            Phase::Published { slot, link } => slot < z.slots && link < z.links,
+            Phase::Draining { slot } => slot < z.slots,
+            Phase::Look { object, position } => one(object) && position <= z.positions(),
+            Phase::Swap { object, position } => one(object) && position < z.positions(),
+        }
+    }
+}
+
+#[derive(Clone, Copy)]
+pub struct Thread {
+    pub hand: u8,
+    pub phase: Phase,
+}
+
+#[derive(Clone, Copy)]
+pub struct Slot {
+    pub hazard: u8,
+    pub mark: bool,
+    pub handover: u8,
+}
+
+pub struct State {
+    pub sizes: Sizes,
+    pub links: [u8; LINKS],
+    pub threads: [Thread; THREADS],
+    pub slots: [Slot; THREADS * SLOTS],
+    pub free: [bool; OBJECTS],
+    pub tags: [u32; OBJECTS],
+}
+
+#[derive(Clone, Copy)]
+pub struct Call {
+    pub thread: u8,
+    pub operation: u8,
+    pub slot: u8,
+    pub link: u8,
+    pub tag: u32,
+}
+
+#[derive(Clone, Copy)]
+pub enum Answer {
+    Refused(u8),
+    Taken(u8),
+    Begun(u8),
+    Working,
+    Protected(u8, u32),
+    Nothing,
+    Swapped(u8),
+    Moved,
+    Tag(u32),
+    Finished,
+    Left(u8, u8),
+    Freed(u8),
+}
+
+impl Answer {
+    /// The number of the answer or the refusal, and its two values.
+    pub fn numbers(self) -> (u8, u32, u32) {
+        match self {
+            Answer::Refused(number) => (number, 0, 0),
+            Answer::Taken(object) => (1, object.into(), 0),
+            Answer::Begun(object) => (2, object.into(), 0),
+            Answer::Working => (3, 0, 0),
+            Answer::Protected(object, tag) => (4, object.into(), tag),
+            Answer::Nothing => (5, 0, 0),
+            Answer::Swapped(object) => (6, object.into(), 0),
+            Answer::Moved => (7, 0, 0),
+            Answer::Tag(tag) => (8, tag, 0),
+            Answer::Finished => (9, 0, 0),
+            Answer::Left(object, position) => (10, object.into(), position.into()),
+            Answer::Freed(object) => (11, object.into(), 0),
+        }
+    }
+}
+
+impl State {
+    /// A fresh machine, or nothing where a size is out of range.
+    pub fn start(sizes: Sizes) -> Option<State> {
+        if !sizes.in_range() {
+            return None;
+        }
+        let mut state = State {
+            sizes,
+            links: [0; LINKS],
+            threads: [Thread { hand: 0, phase: Phase::Idle }; THREADS],
+            slots: [Slot { hazard: 0, mark: false, handover: 0 }; THREADS * SLOTS],
+            free: [false; OBJECTS],
+            tags: [0; OBJECTS],
+        };
+        state.free[..sizes.objects as usize].fill(true);
+        Some(state)
+    }
+
+    pub fn sound<const WHOLE: bool>(&self) -> bool {
+        let z = &self.sizes;
+        if !z.in_range() && !z.blank() {
+            return false;
+        }
+        // how often each number stands in a place; index 0 takes the empty ones
+        let mut counts = [0u8; 256];
+        let (links, beyond) = self.links.split_at(z.links as usize);
+        for &object in links {
+            if object > z.objects {
+                return false;
+            }
+            counts[object as usize] += 1;
+        }
+        if beyond.iter().any(|&object| object != 0) {
+            return false;
+        }
+        let (threads, beyond) = self.threads.split_at(z.threads as usize);
+        for thread in threads {
+            if thread.hand > z.objects || !thread.phase.in_range(z) {
+                return false;
+            }
+            counts[thread.hand as usize] += 1;
+            counts[thread.phase.carried() as usize] += 1;
+        }
+        if beyond.iter().any(|thread| thread.hand != 0 || !thread.phase.idle()) {
+            return false;
+        }
+        let (slots, beyond) = self.slots.split_at(z.positions() as usize);
+        for slot in slots {
+            if slot.hazard > z.objects || slot.handover > z.objects || (slot.mark && slot.hazard == 0) {
+                return false;
+            }
+            counts[slot.handover as usize] += 1;
+        }
+        if beyond.iter().any(|slot| slot.hazard != 0 || slot.mark || slot.handover != 0) {
+            return false;
+        }
+        let n = z.objects as usize;
+        let (free, beyond) = self.free.split_at(n);
+        every::<WHOLE, _>(free.iter().zip(&counts[1..]), |(&free, &count)| count + free as u8 == 1)
+            && every::<WHOLE, _>(beyond.iter(), |&free| !free)
+            && every::<WHOLE, _>(self.tags[n..].iter(), |&tag| tag == 0)
+    }
+
+    fn position(&self, thread: u8, slot: u8) -> usize {
+        (thread * self.sizes.slots + slot) as usize
+    }
+
+    /// The number of the first refusal that applies; 0 where none does.
+    fn refusal<const WHOLE: bool>(&self, call: &Call) -> u8 {
+        if !self.sound::<WHOLE>() {
+            return 19;
+        }
+        let z = &self.sizes;
+        if call.thread >= z.threads {
+            return 21;
+        }
+        let (uses_slot, uses_link, uses_tag) = match call.operation {
+            1 => (false, false, true),
+            2 | 3 => (true, true, false),
+            4 | 6 => (true, false, false),
+            5 | 7 => (false, false, false),
+            _ => return 22,
+        };
+        if (!uses_slot && call.slot != 0) || (!uses_link && call.link != 0) || (!uses_tag && call.tag != 0) {
+            return 23;
+        }
+        let without_slot = call.operation == 3 && call.slot == 255;
+        if uses_slot && call.slot >= z.slots && !without_slot {
+            return 24;
+        }
+        if uses_link && call.link >= z.links {
+            return 25;
+        }
+        let thread = &self.threads[call.thread as usize];
+        match (call.operation, thread.phase.idle()) {
+            (7, true) => return 27,
+            (7, false) | (_, true) => {}
+            (_, false) => return 26,
+        }
+        let slot = || &self.slots[self.position(call.thread, call.slot)];
+        match call.operation {
+            1 if thread.hand != 0 => 28,
+            5 if thread.hand == 0 => 29,
+            3 if !without_slot && !slot().mark => 31,
+            4 if !slot().mark => 31,
+            1 if !self.free.contains(&true) => 30,
+            _ => 0,
+        }
+    }
+
+    pub fn step<const WHOLE: bool>(&mut self, call: &Call) -> Answer {
+        match self.refusal::<WHOLE>(call) {
+            0 => self.accepted(call),
+            number => Answer::Refused(number),
+        }
+    }
+
+    fn accepted(&mut self, call: &Call) -> Answer {
+        let at = call.thread as usize;
+        match call.operation {
+            1 => {
+                let free = self.free.iter().position(|&free| free).unwrap();
+                self.free[free] = false;
+                self.tags[free] = call.tag;
+                self.threads[at].hand = free as u8 + 1;
+                Answer::Taken(free as u8 + 1)
+            }
+            2 => {
+                let object = self.links[call.link as usize];
+                self.threads[at].phase = Phase::Loaded { slot: call.slot, link: call.link, object };
+                Answer::Begun(object)
+            }
+            3 => {
+                let wanted = match call.slot {
+                    255 => 0,
+                    slot => self.slots[self.position(call.thread, slot)].hazard,
+                };
+                let link = &mut self.links[call.link as usize];
+                if *link != wanted {
+                    return Answer::Moved;
+                }
+                std::mem::swap(link, &mut self.threads[at].hand);
+                Answer::Swapped(wanted)
+            }
+            4 => {
+                let object = self.slots[self.position(call.thread, call.slot)].hazard;
+                Answer::Tag(self.tags[object as usize - 1])
+            }
+            5 => {
+                let thread = &mut self.threads[at];
+                let object = std::mem::take(&mut thread.hand);
+                thread.phase = Phase::Look { object, position: 0 };
+                Answer::Begun(object)
+            }
+            6 => {
+                let position = self.position(call.thread, call.slot);
+                let slot = &mut self.slots[position];
+                slot.hazard = 0;
+                slot.mark = false;
+                self.threads[at].phase = Phase::Draining { slot: call.slot };
+                Answer::Begun(0)
+            }
+            _ => self.go_on(call.thread),
+        }
+    }
+
+    fn go_on(&mut self, number: u8) -> Answer {
+        let end = self.sizes.positions();
+        let at = number as usize;
+        let (phase, answer) = match self.threads[at].phase {
+            Phase::Idle => return Answer::Refused(27),
+            Phase::Loaded { slot, link, object } => {
+                let position = self.position(number, slot);
+                self.slots[position].hazard = object;
+                self.slots[position].mark = false;
+                (Phase::Published { slot, link }, Answer::Working)
+            }
+            Phase::Published { slot, link } => {
+                let object = self.links[link as usize];
+                let position = self.position(number, slot);
+                let slot_there = &mut self.slots[position];
+                if object != slot_there.hazard {
+                    (Phase::Loaded { slot, link, object }, Answer::Working)
+                } else if object == 0 {
+                    (Phase::Idle, Answer::Nothing)
+                } else {
+                    slot_there.mark = true;
+                    (Phase::Idle, Answer::Protected(object, self.tags[object as usize - 1]))
+                }
+            }
+            Phase::Draining { slot } => {
+                let position = self.position(number, slot);
+                match std::mem::take(&mut self.slots[position].handover) {
+                    0 => (Phase::Idle, Answer::Finished),
+                    object => (Phase::Look { object, position: position as u8 }, Answer::Working),
+                }
+            }
+            Phase::Look { object, position } if position >= end => {
+                self.free[object as usize - 1] = true;
+                self.tags[object as usize - 1] = 0;
+                (Phase::Idle, Answer::Freed(object))
+            }
+            Phase::Look { object, position } => {
+                if self.slots[position as usize].hazard == object {
+                    (Phase::Swap { object, position }, Answer::Working)
+                } else {
+                    (Phase::Look { object, position: position + 1 }, Answer::Working)
+                }
+            }
+            Phase::Swap { object, position } => {
+                match std::mem::replace(&mut self.slots[position as usize].handover, object) {
+                    0 => (Phase::Idle, Answer::Left(object, position)),
+                    old => (Phase::Look { object: old, position }, Answer::Working),
+                }
+            }
+        };
+        self.threads[at].phase = phase;
+        answer
+    }
+
+    /// Objects free, in links, in hands, in handovers, carried; five zeros where the state is not sound.
+    pub fn count<const WHOLE: bool>(&self) -> [u8; 5] {
+        if !self.sound::<WHOLE>() {
+            return [0; 5];
+        }
+        let some = |object: u8| (object != 0) as u8;
+        [
+            self.free.iter().map(|&free| free as u8).sum(),
+            self.links.iter().map(|&object| some(object)).sum(),
+            self.threads.iter().map(|thread| some(thread.hand)).sum(),
+            self.slots.iter().map(|slot| some(slot.handover)).sum(),
+            self.threads.iter().map(|thread| some(thread.phase.carried())).sum(),
+        ]
+    }
+}
