@@ -3,8 +3,9 @@ use Prim.Native.Nat.{zero-le}
 use native.Mathlib.Omega.{arith}
 use mathlib.Core.Path.{_∙_}
 use native.Mathlib.Nat.{zero-add}
+use lib.ListN.{length}
 use borrow.Author.Tests.{lt-ltb, le-ltb}
-use Rattle.lines.specs.Lent.{answerOf, bufferOf}
+use Rattle.lines.specs.Lent.{roomForAll, answerOf, bufferOf}
 use Rattle.lines.specs.Written.{written}
 use Rattle.lines.proofs.Appending.{had-room}
 use borrow.Author.Needs.{needs}
@@ -13,7 +14,7 @@ use Rattle.lines.proofs.run.Tie as tie
 
 returns : tie.Need-returns
 unfolding answerOf bufferOf
-returns c = (simp (lt-ltb _ _ (c .if1 .taken)), (omega arith, simp (lt-ltb _ _ (c .if1 .taken))))
+returns c = (simp (lt-ltb (length (c .before .before .before .args .out .now)) roomForAll (omega arith)), (omega arith, simp (lt-ltb (length (c .before .before .before .args .out .now)) roomForAll (omega arith))))
 
 put-text-requires : tie.Need-put-text-requires
 put-text-requires c κs = search needs
@@ -24,10 +25,10 @@ same-length c = search needs
 returns-2 : tie.Need-returns-2
 unfolding answerOf bufferOf written
 returns-2 c = (
-  simp (le-ltb _ _ (c .before .before .before .before .if1 .left)) (c .before .before .put-text .ensures .next ∙ zero-add _),
+  simp (le-ltb (length (c .before .before .before .before .before .before .before .args .out .now)) roomForAll (omega arith)) (c .before .before .put-text .ensures .next ∙ zero-add _),
   (
     had-room (c .before .before .put-text .ensures) zero-le (c .before .before .put-text .kept .1 .0),
-    simp (le-ltb _ _ (c .before .before .before .before .if1 .left))
+    simp (le-ltb (length (c .before .before .before .before .before .before .before .args .out .now)) roomForAll (omega arith))
         (c .before .before .put-text .ensures .buffer ∙ (rw zero-add)),
   ),
 )

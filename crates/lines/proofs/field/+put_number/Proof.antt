@@ -47,13 +47,13 @@ put-number-slice-write-out : (t : ℕ) → put-number-lts.Need-slice-write-out (
   put-number-below t,
   put-number.Post,
 ) (put-number-at t) put-number.Post
-put-number-slice-write-out t c = omega (arith, ap length (decimal-few (c .before .before .args .n) (c .if1 .taken)))
+put-number-slice-write-out t c = omega (arith, ap length (decimal-few (c .before .before .args .n) (omega arith)))
 
 put-number-add-result : (t : ℕ) → put-number-lts.Need-add-result (
   put-number-below t,
   put-number.Post,
 ) (put-number-at t) put-number.Post
-put-number-add-result t c = omega (arith, ap length (decimal-few (c .before .before .args .n) (c .if1 .taken)))
+put-number-add-result t c = omega (arith, ap length (decimal-few (c .before .before .args .n) (omega arith)))
 
 put-number-same-length : (t : ℕ) → put-number-lts.Need-same-length (
   put-number-below t,
@@ -67,7 +67,7 @@ put-number-returns :
     (put-number-below t, put-number.Post)
     (put-number-at t)
     put-number.Post
-put-number-returns t c = rw (decimal-few (c .before .before .args .n) (c .if1 .taken)) (one _ _ _ (put-number-slice-write-out t c))
+put-number-returns t c = rw (decimal-few (c .before .before .args .n) (omega arith)) (one _ _ _ (put-number-slice-write-out t c))
 
 put-number-put-number-requires : (t : ℕ) → put-number-lts.Need-put-number-requires (
   put-number-below t,
@@ -75,7 +75,7 @@ put-number-put-number-requires : (t : ℕ) → put-number-lts.Need-put-number-re
 ) (put-number-at t) put-number.Post
 put-number-put-number-requires t c κs = (
   omega arith,
-  omega (arith, simp length-append at (ap length (decimal-many (c .before .before .before .args .n) (c .before .if1 .left)))),
+  omega (arith, simp length-append at (ap length (decimal-many (c .before .before .before .args .n) (omega arith)))),
 )
 
 -- a tenth of the number is written: the room that is left
@@ -83,7 +83,7 @@ put-number-room :
     (t : ℕ) (c : put-number-lts.After-slice-known2 (put-number-below t, put-number.Post) (put-number-at t) put-number.Post) →
     c .before .before .before .before .before .before .args .at + length (decimal (c .before .before .before .before .before .before .args .n / 10) ++ digit (c .before .before .before .before .before .before .args .n % 10) ∷ []) ≤ length (c .before .before .before .before .before .before .args .out .now)
 put-number-room t c =
-    rw (decimal-many (c .before .before .before .before .before .before .args .n) (c .before .before .before .before .if1 .left)) at (c .before .before .before .before .before .before .pre .1)
+    rw (decimal-many (c .before .before .before .before .before .before .args .n) (omega arith)) at (c .before .before .before .before .before .before .pre .1)
 
 put-number-cast-out-2 : (t : ℕ) → put-number-lts.Need-cast-out-2 (
   put-number-below t,
@@ -120,7 +120,7 @@ put-number-returns-2 : (t : ℕ) → put-number-lts.Need-returns-2 (
   put-number.Post,
 ) (put-number-at t) put-number.Post
 put-number-returns-2 t c =
-    rw (decimal-many (c .before .before .before .before .before .before .args .n) (c .before .before .before .before .if1 .left))
+    rw (decimal-many (c .before .before .before .before .before .before .args .n) (omega arith))
     (then-one _ (c .before .before .put-number .ensures) (put-number-room t c))
 
 pub +put-number-spec : {M : Type 1} → statement M
