@@ -19,9 +19,14 @@ const OBJECTS: [u8; 6] = [10, 30, 60, 120, 180, 240];
 /// The fastest round is kept, since nothing but other work on the machine makes a round slower.
 const ROUNDS: usize = 25;
 
+#[link(name = "drive", kind = "static")]
 extern "C" {
     fn drive_schedule(input: *const u8, len: usize) -> u64;
-    #[cfg(text)]
+}
+
+#[cfg(text)]
+#[link(name = "drive_text", kind = "static")]
+extern "C" {
     fn drive_text(input: *const u8, input_len: usize, out: *mut u8, out_len: usize) -> usize;
 }
 
@@ -116,7 +121,7 @@ fn all() {
 
 #[cfg(not(text))]
 fn whole_text() {
-    println!("\nThe whole program, input bytes to text: not measured, since the library has no function drive_text.");
+    println!("\nThe whole program, input bytes to text: not measured, since this repository has no crate drive_text.");
 }
 
 #[cfg(text)]
