@@ -1,6 +1,6 @@
 -- A test of each number under n, as a loop that goes up makes it: what it knows as it goes, and what one failure decides.
-use mathlib.Core.Path.{_≡_, refl}
-use mathlib.Core.Bool.{Bool, true, false, _||_, and-false}
+use mathlib.Core.Path.{_≡_, refl, sym, _∙_}
+use mathlib.Core.Bool.{Bool, true, false, _&&_, _||_, and-false}
 use mathlib.Core.Logic.{⊎-elim}
 use Prim.Native.Nat.{ℕ, zero, suc, _+_, _≤_, _<_}
 use native.Mathlib.Nat.{not-suc-le-zero, le-of-suc-le-suc, eq-or-lt-of-le}
@@ -15,6 +15,11 @@ use Rattle.machine.proofs.Flags.{both}
 pub below-more : (n : ℕ) (test : ℕ → Bool) → below n test ≡ true → test n ≡ true → below (n + 1) test ≡ true
 unfolding below
 below-more n test all here = rw (add-one, all, here)
+
+-- what is known so far and the next number's own test, in a loop that looks at every number
+pub below-next : (n : ℕ) (test : ℕ → Bool) {good here : Bool} → good ≡ below n test → here ≡ test n → good && here ≡ below (n + 1) test
+unfolding below
+below-next n test so-far here = rw (add-one, so-far, here)
 
 -- one fails, so all under n do not pass
 pub below-fails : (i n : ℕ) (test : ℕ → Bool) → i < n → test i ≡ false → below n test ≡ false
@@ -62,5 +67,19 @@ pub beyond-all : (m n : ℕ) (rest : ℕ → Bool) → ((k : ℕ) → k < n → 
 beyond-all m n rest all =
     below-all n (λ k. ltb k m || rest k) (λ k h. or-else (ltb k m) (rest k) (λ e. all k h (ltb-false k m e)))
 
-pub beyond-fails : (i m n : ℕ) (rest : ℕ → Bool) → i < n → m ≤ i → rest i ≡ false → below n (λ k. ltb k m || rest k) ≡ false
-beyond-fails i m n rest h from fails = below-fails i n (λ k. ltb k m || rest k) h (rw (le-ltb i m from, fails))
+-- nothing is asked of a number under m
+pub beyond-none : (m : ℕ) (rest : ℕ → Bool) → true ≡ below m (λ k. ltb k m || rest k)
+beyond-none m rest = sym (beyond-all m m rest (λ k h from. absurd (omega arith)))
+
+pub beyond-next : (m n : ℕ) (rest : ℕ → Bool) {good : Bool} → m ≤ n → good ≡ below n (λ k. ltb k m || rest k) → good && rest n ≡ below (n + 1) (λ k. ltb k m || rest k)
+beyond-next m n rest from so-far = below-next n (λ k. ltb k m || rest k) so-far (rw (le-ltb n m from))
+
+-- at the end of a loop that starts at m, which may be past n
+pub beyond-end : (m k n : ℕ) (rest : ℕ → Bool) {good : Bool} → n ≤ k → (n < k → k ≡ m) → good ≡ below k (λ k. ltb k m || rest k) → good ≡ below n (λ k. ltb k m || rest k)
+beyond-end m k n rest past started so-far =
+    ⊎-elim
+    (λ e. rw e so-far)
+    (λ l.
+    let all : below k (λ k. ltb k m || rest k) ≡ true = rw (started l) (sym (beyond-none m rest)) in
+    so-far ∙ all ∙ sym (below-fewer n k (λ k. ltb k m || rest k) past all))
+    (eq-or-lt-of-le past)

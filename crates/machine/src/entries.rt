@@ -116,30 +116,28 @@ pub fn slots_good(z: Sizes, slots: [Slot; 32]) -> bool
     true
 }
 
-// Only marks beyond N can be wrong.
+// Only marks beyond N can be wrong. Every entry is looked at, here and in the tags, so that many are taken at once.
 pub fn free_good(z: Sizes, free: &[bool; 240]) -> bool
     ensures { λ r. ⌜ r ≡ below 240 (λ k. freeGood z k (getD (now (free .entry)) k false)) ⌝ }
 {
+    let mut good = true;
     let mut k = wide(z.objects);
     while k < 240 {
-        if free[k] {
-            return false;
-        }
+        good = good & !free[k];
         k += 1;
     }
-    true
+    good
 }
 
 // Only tags beyond N can be wrong.
 pub fn tags_good(z: Sizes, tags: &[u32; 240]) -> bool
     ensures { λ r. ⌜ r ≡ below 240 (λ k. tagGood z k (getD (now (tags .entry)) k 0)) ⌝ }
 {
+    let mut good = true;
     let mut k = wide(z.objects);
     while k < 240 {
-        if tags[k] != 0 {
-            return false;
-        }
+        good = good & (tags[k] == 0);
         k += 1;
     }
-    true
+    good
 }

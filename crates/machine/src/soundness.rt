@@ -21,20 +21,20 @@ fn once(free: bool, count: u8) -> bool
     if free { count == 0 } else { count == 1 }
 }
 
-// "every object 1 to N is in exactly one place": its free mark and its count together are 1
+// "every object 1 to N is in exactly one place": its free mark and its count together are 1. Every object is looked at, so that many are
+// taken at once.
 fn each_once(n: u8, free: &[bool; 240], counts: &[u8; 240]) -> bool
     requires { ⌜ n ≤ 240 ⌝ }
     ensures { λ r. ⌜ r ≡ below n (λ k. eqb (bit (getD (now (free .entry)) k false) + getD (now (counts .entry)) k 0) 1) ⌝ }
 {
     let end = wide(n);
+    let mut good = true;
     let mut k = 0;
     while k < end {
-        if !once(free[k], counts[k]) {
-            return false;
-        }
+        good = good & once(free[k], counts[k]);
         k += 1;
     }
-    true
+    good
 }
 
 impl State {

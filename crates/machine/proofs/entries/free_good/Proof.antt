@@ -1,38 +1,30 @@
--- `free_good` meets its contract. The loop's invariant: the entries passed, from N on, are as they must be.
-use Prim.Native.Nat.{ℕ, _≤_, _<_, _-_}
-use mathlib.Core.Path.{_≡_, sym, ap}
-use mathlib.Core.Bool.{true, false, not}
+-- `free_good` meets its contract. The loop's invariant: what is carried is the test of the entries under k, of which those under N pass.
+use Prim.Native.Nat.{_≤_, _<_, _-_}
+use mathlib.Core.Path.{_≡_, refl, _∙_}
+use mathlib.Core.Bool.{false, not, _||_}
 use native.Mathlib.Omega.{arith}
 use lib.ListN.{getD}
-use borrow.Author.Count.{below-more}
-use Rattle.machine.specs.Soundness.{freeGood}
-use Rattle.machine.proofs.Below.{beyond-all, beyond-fails}
+use lib.Dec.{ltb}
+use Rattle.machine.specs.Soundness.{below, freeGood}
+use Rattle.machine.proofs.Below.{beyond-none, beyond-next, beyond-end}
 use borrow.Author.Needs.{needs}
 use Rattle.machine.proofs.entries.free_good.Statement.{statement}
 use Rattle.machine.proofs.entries.free_good.Tie as tie
 
 abbrev Inv-loop : tie.InvT-loop
-Inv-loop free k₀ k = (k₀ ≤ k) × ((j : ℕ) → j < k → k₀ ≤ j → not (getD free j false) ≡ true)
+Inv-loop free good₀ k₀ good k = (k₀ ≤ k) × (240 < k → k ≡ k₀) × (good ≡ below k (λ k. ltb k k₀ || not (getD free k false)))
 
 abbrev μ-loop : tie.MeasureT-loop
-μ-loop free k₀ k = 240 - k
+μ-loop free good₀ k₀ good k = 240 - k
 
 wide-requires : tie.Need-wide-requires Inv-loop μ-loop
 wide-requires c κs = search needs
 
 loop-holds : tie.Need-loop-holds Inv-loop μ-loop
-loop-holds c = (omega arith, λ j below from. absurd (omega arith))
+loop-holds c = (omega arith, λ past. refl, beyond-none _ _)
 
-element-copy-out-if1 : tie.Need-element-copy-out-if1 Inv-loop μ-loop
-element-copy-out-if1 c = omega arith
-
-returns : tie.Need-returns Inv-loop μ-loop
-unfolding freeGood
-returns c =
-    let a = c .before .before .before .before .before .args in
-    sym
-    (beyond-fails (c .before .before .before .loop .k) (a .z .objects) 240 (λ k. not (getD (a .free .now) k false)) (omega arith) (omega arith)
-    (ap not (c .if1 .taken)))
+element-copy-out-good : tie.Need-element-copy-out-good Inv-loop μ-loop
+element-copy-out-good c = omega arith
 
 add-k : tie.Need-add-k Inv-loop μ-loop
 add-k c = omega arith
@@ -41,15 +33,18 @@ loop-less : tie.Need-loop-less Inv-loop μ-loop
 loop-less c = omega arith
 
 loop-again : tie.Need-loop-again Inv-loop μ-loop
-loop-again c = (omega arith, below-more _ _ (c .before .before .before .loop .inv .1) (λ from. ap not (c .if1 .left)))
+loop-again c =
+    let a = c .before .before .before .before .args in
+    let at = c .before .before .loop in
+    (omega arith, λ past. absurd (omega arith), beyond-next _ (at .k) (λ k. not (getD (a .free .now) k false)) (at .inv .0) (at .inv .2))
 
-returns-2 : tie.Need-returns-2 Inv-loop μ-loop
+returns : tie.Need-returns Inv-loop μ-loop
 unfolding freeGood
-returns-2 c =
+returns c =
     let a = c .before .before .before .args in
-    sym
-    (beyond-all (a .z .objects) 240 (λ k. not (getD (a .free .now) k false))
-    (λ k h from. c .before .loop .inv .1 k (omega arith) (omega arith)))
+    let at = c .before .loop in
+    let started = c .before .before .wide .ensures in
+    beyond-end (a .z .objects) (at .k) 240 (λ k. not (getD (a .free .now) k false)) (omega arith) (λ past. at .inv .1 past ∙ started) (rw (← started) (at .inv .2))
 
 pub free-good-spec : {M : Type 1} → statement M
 free-good-spec =
@@ -59,9 +54,8 @@ free-good-spec =
     μ-loop
     wide-requires
     loop-holds
-    element-copy-out-if1
-    returns
+    element-copy-out-good
     add-k
     loop-less
     loop-again
-    returns-2)
+    returns)

@@ -1,22 +1,21 @@
--- `each_once` meets its contract. The loop's invariant: the objects passed are in one place each.
+-- `each_once` meets its contract. The loop's invariant: what is carried is whether the objects passed are in one place each.
 use Prim.Native.Nat.{_+_, _≤_, _-_}
-use mathlib.Core.Path.{_≡_, refl, sym}
-use mathlib.Core.Bool.{true, false}
+use mathlib.Core.Path.{_≡_, refl}
+use mathlib.Core.Bool.{false}
 use native.Mathlib.Omega.{arith}
 use lib.ListN.{getD}
 use lib.Dec.{eqb}
 use Rattle.machine.specs.Soundness.{below, bit}
-use Rattle.machine.proofs.Flags.{refused, passed}
-use Rattle.machine.proofs.Below.{below-more, below-fails, below-fewer}
+use Rattle.machine.proofs.Below.{below-next}
 use borrow.Author.Needs.{needs}
 use Rattle.machine.proofs.soundness.each_once.Statement.{statement}
 use Rattle.machine.proofs.soundness.each_once.Tie as tie
 
 abbrev Inv-loop : tie.InvT-loop
-Inv-loop n free counts end k₀ k = (end ≡ n) × (k ≤ n) × (below k (λ j. eqb (bit (getD free j false) + getD counts j 0) 1) ≡ true)
+Inv-loop n free counts end good₀ k₀ good k = (end ≡ n) × (k ≤ n) × (good ≡ below k (λ j. eqb (bit (getD free j false) + getD counts j 0) 1))
 
 abbrev μ-loop : tie.MeasureT-loop
-μ-loop n free counts end k₀ k = n - k
+μ-loop n free counts end good₀ k₀ good k = n - k
 
 wide-requires : tie.Need-wide-requires Inv-loop μ-loop
 wide-requires c κs = search needs
@@ -34,9 +33,6 @@ element-copy-out-once-2 c = omega arith
 once-requires : tie.Need-once-requires Inv-loop μ-loop
 once-requires c κs = search needs
 
-returns : tie.Need-returns Inv-loop μ-loop
-returns c = sym (below-fails (c .before .before .before .before .before .loop .k) _ _ (omega arith) (refused (c .before .once .ensures) (c .if1 .taken)))
-
 add-k : tie.Need-add-k Inv-loop μ-loop
 add-k c = omega arith
 
@@ -44,10 +40,14 @@ loop-less : tie.Need-loop-less Inv-loop μ-loop
 loop-less c = omega arith
 
 loop-again : tie.Need-loop-again Inv-loop μ-loop
-loop-again c = (c .before .before .before .before .before .loop .inv .0, omega arith, below-more (c .before .before .before .before .before .loop .k) _ (c .before .before .before .before .before .loop .inv .2) (passed (c .before .once .ensures) (c .if1 .left)))
+loop-again c =
+    let at = c .before .before .before .before .loop in
+    (at .inv .0, omega arith, below-next (at .k) _ (at .inv .2) (c .once .ensures))
 
-returns-2 : tie.Need-returns-2 Inv-loop μ-loop
-returns-2 c = sym (below-fewer (c .before .before .before .args .n) (c .before .loop .k) _ (omega arith) (c .before .loop .inv .2))
+returns : tie.Need-returns Inv-loop μ-loop
+returns c =
+    let all-passed : c .before .before .before .args .n ≡ c .before .loop .k = omega arith in
+    rw all-passed (c .before .loop .inv .2)
 
 pub each-once-spec : {M : Type 1} → statement M
 each-once-spec =
@@ -60,8 +60,7 @@ each-once-spec =
     element-copy-out-once
     element-copy-out-once-2
     once-requires
-    returns
     add-k
     loop-less
     loop-again
-    returns-2)
+    returns)
