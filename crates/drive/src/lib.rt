@@ -10,9 +10,19 @@ use records::Read;
 use records::StepRecord;
 use records::reading::read;
 use records::reading::rest;
+ghost use mathlib.Core.Path.{_≡_};
 
 // What a step record says, to the machine.
-fn call_of(step: StepRecord) -> Call {
+fn call_of(step: StepRecord) -> Call
+    ensures { λ r. ⌜ r ≡
+        record {
+          thread = step .thread;
+          operation = step .operation;
+          slot = step .slot;
+          link = step .link;
+          tag = step .tag;
+        } ⌝ }
+{
     Call {
         thread: step.thread,
         operation: step.operation,
