@@ -15,4 +15,6 @@ pub mod Sums
 pub mod FivePlaces
 pub mod NotRefused
 pub mod Refused
-pub mod Changed
+pub mod OneStore
+pub mod ChangedByCalls
+pub mod ChangedByGoOn
