@@ -39,7 +39,7 @@ counted f o xs i d n long less e =
 
 -- the five numbers of which one is 1 and the others 0
 module _ (s : State) (h : Sound s) (o : ℕ) (some : 0 < o) (most : o ≤ s .sizes .objects) where
-  one-place : places s o ≡ 1
+  pub one-place : places s o ≡ 1
   one-place =
       let e : suc (o - 1) ≡ o = omega arith in
       subst (λ (k : ℕ). places s k ≡ 1) e (h .placed (o - 1) (omega arith))

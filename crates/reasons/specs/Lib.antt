@@ -1,0 +1,6 @@
+-- Request 1 as definitions: the first of a row, the reasons and refusals, their numbers; then what is promised of them.
+pub mod First
+pub mod Reasons
+pub mod Numbers
+pub mod Applies
+pub mod Lemmas

@@ -1,0 +1,124 @@
+// Where an object is, place by place. Each function answers the first of its row that has the object, or how many there are if none has.
+use machine::Phase;
+use machine::Slot;
+use machine::Thread;
+ghost use mathlib.Core.Path.{_≡_};
+ghost use Prim.Native.Nat.{_≤_};
+ghost use lib.ListN.{getD};
+ghost use lib.Dec.{eqb};
+ghost use Rattle.machine.specs.Parts.{idleThread, emptySlot};
+ghost use Rattle.machine.specs.Phases.{carriedBy};
+ghost use Rattle.reasons.specs.First.{first};
+ghost use Rattle.reasons.specs.Reasons.{carriedAt};
+
+pub(crate) fn link_with(count: u8, links: [u8; 16], object: u8) -> u8
+    requires { ⌜ count ≤ 16 ⌝ }
+    ensures { λ r. ⌜ r ≡ first count (λ i. eqb (getD links i 0) object) ⌝ }
+{
+    let mut i = 0;
+    while i < count {
+        let k = i as usize;
+        if links[k] == object {
+            return i;
+        }
+        i += 1;
+    }
+    count
+}
+
+pub(crate) fn hand_with(count: u8, threads: [Thread; 8], object: u8) -> u8
+    requires { ⌜ count ≤ 8 ⌝ }
+    ensures { λ r. ⌜ r ≡ first count (λ t. eqb ((getD threads t idleThread) .hand) object) ⌝ }
+{
+    let mut t = 0;
+    while t < count {
+        let k = t as usize;
+        let thread = threads[k];
+        if thread.hand == object {
+            return t;
+        }
+        t += 1;
+    }
+    count
+}
+
+// The object that a thread carries, or 0.
+fn carried(phase: Phase) -> u8
+    ensures { λ r. ⌜ r ≡ carriedBy phase ⌝ }
+{
+    match phase {
+        Phase::Idle => 0,
+        Phase::Loaded {
+            slot: _,
+            link: _,
+            object: _,
+        } => 0,
+        Phase::Published { slot: _, link: _ } => 0,
+        Phase::Draining { slot: _ } => 0,
+        Phase::Look {
+            object,
+            position: _,
+        } => object,
+        Phase::Swap {
+            object,
+            position: _,
+        } => object,
+    }
+}
+
+// The position at which a thread that carries an object is.
+pub(crate) fn carried_at(phase: Phase) -> u8
+    ensures { λ r. ⌜ r ≡ carriedAt phase ⌝ }
+{
+    match phase {
+        Phase::Idle => 0,
+        Phase::Loaded {
+            slot: _,
+            link: _,
+            object: _,
+        } => 0,
+        Phase::Published { slot: _, link: _ } => 0,
+        Phase::Draining { slot: _ } => 0,
+        Phase::Look {
+            object: _,
+            position,
+        } => position,
+        Phase::Swap {
+            object: _,
+            position,
+        } => position,
+    }
+}
+
+pub(crate) fn carrier_of(count: u8, threads: [Thread; 8], object: u8) -> u8
+    requires { ⌜ count ≤ 8 ⌝ }
+    ensures { λ r. ⌜ r ≡ first count (λ t. eqb (carriedBy ((getD threads t idleThread) .phase)) object) ⌝ }
+{
+    let mut t = 0;
+    while t < count {
+        let k = t as usize;
+        let thread = threads[k];
+        let phase = thread.phase;
+        if carried(phase) == object {
+            return t;
+        }
+        t += 1;
+    }
+    count
+}
+
+pub(crate) fn handover_with(count: u8, slots: [Slot; 32], object: u8) -> u8
+    requires { ⌜ count ≤ 32 ⌝ }
+    ensures { λ r. ⌜ r ≡ first count (λ p. eqb ((getD slots p emptySlot) .handover) object) ⌝ }
+{
+    let mut p = 0;
+    while p < count {
+        let k = p as usize;
+        let slot = slots[k];
+        if slot.handover == object {
+            return p;
+        }
+        p += 1;
+    }
+    count
+}
