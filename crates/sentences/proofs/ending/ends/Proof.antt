@@ -1,0 +1,38 @@
+-- `sentences::ending::ends` meets its contract: each arm knows what was read. Assumes nothing.
+use Rattle.sentences.specs.Ends.{isEnd}
+use borrow.Author.Needs.{needs}
+use Rattle.sentences.proofs.ending.ends.Statement.{statement}
+use Rattle.sentences.proofs.ending.ends.Tie as tie
+
+enum-told : tie.Need-enum-told
+enum-told c = search needs
+
+enum-told-2 : tie.Need-enum-told-2
+enum-told-2 c = search needs
+
+enum-told-3 : tie.Need-enum-told-3
+enum-told-3 c = search needs
+
+enum-told-4 : tie.Need-enum-told-4
+enum-told-4 c = search needs
+
+returns : tie.Need-returns
+unfolding isEnd
+returns c = rw (c .enum-told .given .1)
+
+returns-2 : tie.Need-returns-2
+unfolding isEnd
+returns-2 c = rw (c .enum-told2 .given .1)
+
+returns-3 : tie.Need-returns-3
+unfolding isEnd
+returns-3 c = rw (c .enum-told3 .given .1)
+
+returns-4 : tie.Need-returns-4
+unfolding isEnd
+returns-4 c = rw (c .enum-told4 .given .1)
+
+pub ends-spec : {M : Type 1} → statement M
+ends-spec =
+    tie.close
+    (tie.spec enum-told enum-told-2 enum-told-3 enum-told-4 returns returns-2 returns-3 returns-4)

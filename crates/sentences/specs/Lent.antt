@@ -1,0 +1,20 @@
+-- What `tell` answers, and what a lent buffer holds after it.
+use Prim.Native.Nat.{ℕ}
+use mathlib.Core.Bool.{cond}
+use mathlib.Core.List.{List, _++_}
+use lib.ListN.{length, drop}
+use lib.Dec.{ltb}
+use Rattle.sentences.specs.Told.{textOf}
+
+-- room for every text: an object's number is a byte, so there are fewer than 256 lines, each of at most 480 bytes
+abbrev pub roomForAll : ℕ
+roomForAll = 122880
+
+-- how many bytes were written: the text's length, or 0 where the buffer is smaller than that room
+unfoldable pub answerOf : List ℕ → List ℕ → ℕ
+answerOf input buffer = cond (ltb (length buffer) roomForAll) 0 (length (textOf input))
+
+-- the text, and then the buffer's other bytes untouched; a buffer that is smaller is untouched whole
+unfoldable pub bufferOf : List ℕ → List ℕ → List ℕ
+bufferOf input buffer =
+    cond (ltb (length buffer) roomForAll) buffer (textOf input ++ drop (length (textOf input)) buffer)

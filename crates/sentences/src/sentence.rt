@@ -1,0 +1,135 @@
+// Writes the sentence that says why an object is still here into a lent buffer.
+use crate::filling::put_filled;
+use reasons::Explained;
+use reasons::Guard;
+use reasons::Hazard;
+use reasons::Reason;
+ghost use mathlib.Core.Path.{_≡_};
+ghost use Prim.Native.Nat.{_+_, _≤_};
+ghost use lib.ListN.{length};
+ghost use Rattle.lines.specs.Written.{Appended};
+ghost use Rattle.sentences.specs.Sentence.{threadOf, slotOf, guardWords, reasonWords, hazardWords, lineOf};
+
+// The thread whose slot is at a position, and which of its slots it is.
+fn thread_of(slots: u8, position: u8) -> u8
+    ensures { λ r. ⌜ r ≡ threadOf slots position ⌝ }
+{
+    if slots == 0 { 0 } else { position / slots }
+}
+
+fn slot_of(slots: u8, position: u8) -> u8
+    ensures { λ r. ⌜ r ≡ slotOf slots position ⌝ }
+{
+    if slots == 0 { 0 } else { position % slots }
+}
+
+fn put_guard(out: &mut [u8], at: usize, guard: Guard) -> usize
+    requires { ⌜ at + 130 ≤ length (now out) ⌝ }
+    ensures { λ r. ⌜ (r ≤ at + 130) × Appended (now (out .entry)) at (guardWords guard) (now (out .exit)) r ⌝ }
+{
+    let none = [0u8; 4];
+    match guard {
+        Guard::Protected => put_filled(out, at, b"whose hazard is this object, protected", none),
+        Guard::Published => put_filled(
+            out,
+            at,
+            b"whose hazard is this object, only published",
+            none,
+        ),
+        Guard::Otherwise => put_filled(out, at, b"whose hazard is something else", none),
+    }
+}
+
+fn put_handover(
+    out: &mut [u8],
+    at: usize,
+    slots: u8,
+    object: u8,
+    position: u8,
+    guard: Guard,
+) -> usize
+    requires { ⌜ at + 340 ≤ length (now out) ⌝ }
+    ensures { λ r. ⌜ (r ≤ at + 340) × Appended (now (out .entry)) at (reasonWords slots object (Reason.Handover position guard)) (now (out .exit)) r ⌝ }
+{
+    let numbers = [
+        object,
+        position,
+        thread_of(slots, position),
+        slot_of(slots, position),
+    ];
+    let next = put_filled(
+        out,
+        at,
+        b"object % was left in the handover of position % (thread %, slot %), ",
+        numbers,
+    );
+    put_guard(out, next, guard)
+}
+
+fn put_reason(out: &mut [u8], at: usize, slots: u8, object: u8, reason: Reason) -> usize
+    requires { ⌜ at + 340 ≤ length (now out) ⌝ }
+    ensures { λ r. ⌜ (r ≤ at + 340) × Appended (now (out .entry)) at (reasonWords slots object reason) (now (out .exit)) r ⌝ }
+{
+    match reason {
+        Reason::Link { link } => put_filled(
+            out,
+            at,
+            b"object % is in link %",
+            [object, link, 0, 0],
+        ),
+        Reason::Hand { thread } => put_filled(
+            out,
+            at,
+            b"object % is in the hand of thread %",
+            [object, thread, 0, 0],
+        ),
+        Reason::Carried { thread, position } => put_filled(
+            out,
+            at,
+            b"object % is carried by thread %, its scan at position %",
+            [object, thread, position, 0],
+        ),
+        Reason::Handover { position, guard } => put_handover(
+            out,
+            at,
+            slots,
+            object,
+            position,
+            guard,
+        ),
+    }
+}
+
+fn put_hazard(out: &mut [u8], at: usize, slots: u8, hazard: Hazard) -> usize
+    requires { ⌜ at + 140 ≤ length (now out) ⌝ }
+    ensures { λ r. ⌜ (r ≤ at + 140) × Appended (now (out .entry)) at (hazardWords slots hazard) (now (out .exit)) r ⌝ }
+{
+    match hazard {
+        Hazard::At(position) => put_filled(
+            out,
+            at,
+            b"; first hazard: position % (thread %, slot %)\n",
+            [
+                position,
+                thread_of(slots, position),
+                slot_of(slots, position),
+                0,
+            ],
+        ),
+        Hazard::Nowhere => put_filled(out, at, b"; no hazard\n", [0, 0, 0, 0]),
+    }
+}
+
+// The line of an object; nothing where it is free.
+pub(crate) fn put_line(out: &mut [u8], at: usize, slots: u8, object: u8, told: Explained) -> usize
+    requires { ⌜ at + 480 ≤ length (now out) ⌝ }
+    ensures { λ r. ⌜ (r ≤ at + 480) × Appended (now (out .entry)) at (lineOf slots object told) (now (out .exit)) r ⌝ }
+{
+    match told {
+        Explained::Kept { reason, hazard } => {
+            let next = put_reason(out, at, slots, object, reason);
+            put_hazard(out, next, slots, hazard)
+        }
+        Explained::Refused(_) => at,
+    }
+}
