@@ -20,10 +20,7 @@ fn refusal(state: State, object: u8) -> u8
         return 19;
     }
     let sizes = state.sizes;
-    if object == 0 {
-        return 60;
-    }
-    if sizes.objects < object {
+    if (object == 0) | (sizes.objects < object) {
         return 60;
     }
     let k = object as usize - 1;
