@@ -1,5 +1,5 @@
 -- What each reason and each hazard says of a state, apart from how it is found.
-use Prim.Native.Nat.{ℕ, _<_}
+use Prim.Native.Nat.{ℕ, _<_, _≤_}
 use mathlib.Core.Path.{_≡_}
 use mathlib.Core.Bool.{true, false}
 use Rattle.machine.specs.declared.State.{State}
@@ -7,13 +7,21 @@ use Rattle.machine.specs.declared.Slot.{Slot}
 use Rattle.machine.specs.declared.Phase.{Phase}
 use Rattle.machine.specs.declared.Phase.the-variants.{Idle, Loaded, Published, Draining, Look, Swap}
 use Rattle.machine.specs.Sizes.{positions}
-use Rattle.machine.specs.Parts.{linkAt, handOf, phaseOf, slotAt}
+use Rattle.machine.specs.Parts.{linkAt, handOf, phaseOf, slotAt, freeAt}
+use Rattle.machine.specs.Soundness.{sound}
 use Rattle.reasons.specs.declared.Guard.{Guard}
 use Rattle.reasons.specs.declared.Guard.the-variants as guard
 use Rattle.reasons.specs.declared.Reason.{Reason}
 use Rattle.reasons.specs.declared.Reason.the-variants.{Link, Hand, Carried, Handover}
 use Rattle.reasons.specs.declared.Hazard.{Hazard}
 use Rattle.reasons.specs.declared.Hazard.the-variants.{At, Nowhere}
+
+-- an object 1 to N of a sound state that is not free
+pub record Stays (s : State) (o : ℕ) : Type 0 where
+  pub sound : sound s ≡ true
+  pub some : 0 < o
+  pub most : o ≤ s .sizes .objects
+  pub kept : freeAt s o ≡ false
 
 -- "carried by a thread with its position": only Look and Swap carry
 abbrev pub Carries : ℕ → ℕ → Phase → Type 0

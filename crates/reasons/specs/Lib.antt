@@ -4,3 +4,5 @@ pub mod Reasons
 pub mod Numbers
 pub mod Applies
 pub mod Lemmas
+pub mod Promise
+pub mod Bench

@@ -1,6 +1,7 @@
 -- "Where an answer is an enum, a definition gives this paper's number and values for every one of its cases." The reasons have the numbers
 -- 1 to 4 in the order of the request, a refusal has its own.
-use Prim.Native.Nat.{ℕ}
+use Prim.Native.Nat.{ℕ, _<_, _≤_}
+use mathlib.Core.Path.{_≡_}
 use Rattle.reasons.specs.declared.Guard.{Guard}
 use Rattle.reasons.specs.declared.Guard.the-variants.{Protected, Published, Otherwise}
 use Rattle.reasons.specs.declared.Reason.{Reason}
@@ -59,3 +60,14 @@ numbersOf (Kept reason hazard) =
       first = hazardPosition hazard;
     }
 numbersOf (Refused number) = record { number = number; a = 0; b = 0; hazard = 0; first = 0 }
+
+-- the numbers of an object that the slot at p protects
+pub record Sheltered (told : Numbers) (p : ℕ) : Type 0 where
+  -- it has one of the four reasons: it is never free, nor refused in another way
+  pub kept : (0 < told .number) × (told .number ≤ 4)
+  -- left in a handover, it lies at or below the slot
+  pub handover : told .number ≡ 4 → told .a ≤ p
+  -- carried, its scan has not passed the slot
+  pub carried : told .number ≡ 3 → told .b ≤ p
+  -- and the first hazard is there or below
+  pub hazard : (told .hazard ≡ 1) × (told .first ≤ p)

@@ -10,10 +10,6 @@ use crate::places::handover_with;
 use crate::places::link_with;
 use machine::State;
 ghost use mathlib.Core.Path.{_≡_};
-ghost use mathlib.Core.Bool.{true, false};
-ghost use Prim.Native.Nat.{_≤_};
-ghost use Rattle.machine.specs.Parts.{freeAt};
-ghost use Rattle.machine.specs.Soundness.{sound};
 ghost use Rattle.reasons.specs.Reasons.{reasonOf, refusalOf, whyOf};
 
 // "Refusals: 19, then 60 object not 1 to N, then 61 object is free"; 0 where the object is kept.
@@ -24,10 +20,7 @@ fn refusal(state: State, object: u8) -> u8
         return 19;
     }
     let sizes = state.sizes;
-    if object == 0 {
-        return 60;
-    }
-    if sizes.objects < object {
+    if (object == 0) | (sizes.objects < object) {
         return 60;
     }
     let k = object as usize - 1;
@@ -67,10 +60,8 @@ fn reason_of(state: State, object: u8) -> Reason
     let position = handover_with(sizes.threads * sizes.slots, slots, object);
     let p = position as usize;
     let left = slots[p];
-    Reason::Handover {
-        position,
-        guard: guard_of(left, object),
-    }
+    let guard = guard_of(left, object);
+    Reason::Handover { position, guard }
 }
 
 // Names the one reason for which an object of the state is kept, and the first position in scan order that holds it as a hazard.

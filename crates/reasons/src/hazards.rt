@@ -5,13 +5,22 @@ use machine::Sizes;
 use machine::Slot;
 ghost use mathlib.Core.Path.{_≡_};
 ghost use mathlib.Core.Bool.{cond};
-ghost use Prim.Native.Nat.{_*_, _≤_};
+ghost use Prim.Native.Nat.{_+_, _*_, _≤_, _<_};
 ghost use lib.ListN.{getD};
 ghost use lib.Dec.{ltb, eqb};
 ghost use Rattle.machine.specs.Sizes.{positions};
 ghost use Rattle.machine.specs.Parts.{emptySlot};
 ghost use Rattle.reasons.specs.First.{first};
 ghost use Rattle.reasons.specs.Reasons.{guardOf};
+
+// "A slot's position is thread × H + slot"
+fn position(sizes: Sizes, thread: u8, slot: u8) -> u8
+    requires { ⌜ thread * sizes .slots + slot < 32 ⌝ }
+    ensures number { λ r. ⌜ r ≡ thread * sizes .slots + slot ⌝ }
+    ensures within { λ r. ⌜ r < 32 ⌝ }
+{
+    thread * sizes.slots + slot
+}
 
 // "the first position in scan order that holds it as a hazard, or none": the slots of thread 0, then those of thread 1, and so on
 pub(crate) fn first_hazard(sizes: Sizes, slots: [Slot; 32], object: u8) -> Hazard
@@ -25,11 +34,11 @@ pub(crate) fn first_hazard(sizes: Sizes, slots: [Slot; 32], object: u8) -> Hazar
     'scan: while thread < sizes.threads {
         let mut slot = 0;
         while slot < sizes.slots {
-            let position = thread * sizes.slots + slot;
-            let p = position as usize;
+            let at = position(sizes, thread, slot);
+            let p = at as usize;
             let held = slots[p];
             if held.hazard == object {
-                found = Hazard::At(position);
+                found = Hazard::At(at);
                 break 'scan;
             }
             slot += 1;

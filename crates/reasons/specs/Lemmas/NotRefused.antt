@@ -1,5 +1,5 @@
 -- What is known where no line of the refusals applies.
-use Prim.Native.Nat.{ℕ, _<_, _≤_}
+use Prim.Native.Nat.{ℕ}
 use native.Mathlib.Omega.{arith}
 use mathlib.Core.Path.{_≡_, refl}
 use mathlib.Core.Bool.{Bool, true, false, cond, not}
@@ -11,13 +11,7 @@ use Rattle.machine.specs.Soundness.{sound}
 use Rattle.machine.specs.Refusals.{firstOf}
 use Rattle.laws.specs.Lemmas.Bools.{ands}
 use Rattle.reasons.specs.Reasons.{refusals, refusalOf}
-
--- an object that is kept, of a sound state
-pub record Stays (s : State) (o : ℕ) : Type 0 where
-  pub sound : sound s ≡ true
-  pub some : 0 < o
-  pub most : o ≤ s .sizes .objects
-  pub kept : freeAt s o ≡ false
+use Rattle.reasons.specs.Applies.{Stays}
 
 none-applies : (a b c : Bool) → _≡_ {A = ℕ} (cond a 19 (cond b 60 (cond c 61 0))) 0 → (a ≡ false) × (b ≡ false) × (c ≡ false)
 none-applies true b c h = absurd (omega arith)

@@ -52,37 +52,37 @@ module _ (z : Sizes) (i : ℕ) where
   handover-empty slot past fine = let all = rw (le-ltb i (positions z) past) at fine in eqb-true _ _ (search ands)
 
 module _ (s : State) (h : Sound s) (o : ℕ) (some : 0 < o) where
-  links-empty : (i : ℕ) → s .sizes .links ≤ i → i < 16 → linkAt s i ≡ 0
+  pub links-empty : (i : ℕ) → s .sizes .links ≤ i → i < 16 → linkAt s i ≡ 0
   links-empty i past less = link-empty (s .sizes) i (linkAt s i) past (h .ranged .links i less)
 
-  hands-empty : (t : ℕ) → s .sizes .threads ≤ t → t < 8 → (threadAt s t) .hand ≡ 0
+  pub hands-empty : (t : ℕ) → s .sizes .threads ≤ t → t < 8 → (threadAt s t) .hand ≡ 0
   hands-empty t past less = hand-empty (s .sizes) t (threadAt s t) past (h .ranged .threads t less)
 
-  carry-none : (t : ℕ) → s .sizes .threads ≤ t → t < 8 → carriedBy ((threadAt s t) .phase) ≡ 0
+  pub carry-none : (t : ℕ) → s .sizes .threads ≤ t → t < 8 → carriedBy ((threadAt s t) .phase) ≡ 0
   carry-none t past less = none-carried (s .sizes) t (threadAt s t) past (h .ranged .threads t less)
 
-  handovers-empty : (p : ℕ) → positions (s .sizes) ≤ p → p < 32 → (slotAt s p) .handover ≡ 0
+  pub handovers-empty : (p : ℕ) → positions (s .sizes) ≤ p → p < 32 → (slotAt s p) .handover ≡ 0
   handovers-empty p past less = handover-empty (s .sizes) p (slotAt s p) past (h .ranged .slots p less)
 
   -- a row in which the first that has it is past the end counts nothing
 
-  no-link : s .sizes .links ≤ linkWith s o → times (λ (x : ℕ). x) o (s .links) ≡ 0
+  pub no-link : s .sizes .links ≤ linkWith s o → times (λ (x : ℕ). x) o (s .links) ≡ 0
   unfolding linkWith
   no-link = rows.not-found (λ (x : ℕ). x) o 0 (s .links) (s .sizes .links) 16 (h .ranged .shape .links) some links-empty
 
-  no-hand : s .sizes .threads ≤ handWith s o → times (λ (x : Thread). x .hand) o (s .threads) ≡ 0
+  pub no-hand : s .sizes .threads ≤ handWith s o → times (λ (x : Thread). x .hand) o (s .threads) ≡ 0
   unfolding handWith
   no-hand =
       rows.not-found (λ (x : Thread). x .hand) o idleThread (s .threads) (s .sizes .threads) 8 (h .ranged .shape .threads) some
       hands-empty
 
-  no-carrier : s .sizes .threads ≤ carrierOf s o → times (λ (x : Thread). carriedBy (x .phase)) o (s .threads) ≡ 0
+  pub no-carrier : s .sizes .threads ≤ carrierOf s o → times (λ (x : Thread). carriedBy (x .phase)) o (s .threads) ≡ 0
   unfolding carrierOf
   no-carrier =
       rows.not-found (λ (x : Thread). carriedBy (x .phase)) o idleThread (s .threads) (s .sizes .threads) 8
       (h .ranged .shape .threads) some carry-none
 
-  no-handover : positions (s .sizes) ≤ handoverWith s o → times (λ (x : Slot). x .handover) o (s .slots) ≡ 0
+  pub no-handover : positions (s .sizes) ≤ handoverWith s o → times (λ (x : Slot). x .handover) o (s .slots) ≡ 0
   unfolding handoverWith
   no-handover =
       rows.not-found (λ (x : Slot). x .handover) o emptySlot (s .slots) (positions (s .sizes)) 32 (h .ranged .shape .slots) some

@@ -1,18 +1,13 @@
 -- `refusal` meets its contract: each return is the first line of the table that applies.
-use Prim.Native.Nat.{ℕ, _≤_}
-use mathlib.Core.Path.{_≡_}
 use native.Mathlib.Omega.{arith}
-use borrow.Author.Tests.{le-leb, lt-leb}
 use borrow.Author.Needs.{needs}
 use Rattle.machine.specs.Refusals.{firstOf}
 use Rattle.machine.proofs.Flags.{refused, passed}
 use Rattle.machine.proofs.Bounds.{limits, taken-apart}
 use Rattle.reasons.specs.Reasons.{refusals, refusalOf}
+use Rattle.reasons.proofs.Outside.{outside, inside}
 use Rattle.reasons.proofs.explain.refusal.Statement.{statement}
 use Rattle.reasons.proofs.explain.refusal.Tie as tie
-
-not-zero : (o : ℕ) → (o ≡ 0 → ⊥) → 1 ≤ o
-not-zero o some = omega arith
 
 is-sound-requires : tie.Need-is-sound-requires
 is-sound-requires c κs = search needs
@@ -24,59 +19,49 @@ returns c = rw (refused (c .before .is-sound .ensures) (c .if1 .taken))
 returns-2 : tie.Need-returns-2
 unfolding refusalOf refusals firstOf
 returns-2 c =
-    let b = c .before .before in
-    rw (passed (b .before .is-sound .ensures) (b .if1 .left), c .if2 .taken)
+    let b = c .before .before .before in
+    let a = b .before .before .args in
+    rw (passed (b .before .is-sound .ensures) (b .if1 .left), outside (a .t1 .sizes .objects) (a .object), c .if2 .taken)
+
+sub-k : tie.Need-sub-k
+sub-k c =
+    let a = c .before .before .before .before .before .args in
+    inside (a .t1 .sizes .objects) (a .object) (c .if2 .left) .0
+
+element-copy-out-if3 : tie.Need-element-copy-out-if3
+element-copy-out-if3 c =
+    let b = c .before .before .before in
+    let a = b .before .before .args in
+    let z = limits (a .t1 .sizes) (taken-apart _ (passed (b .before .is-sound .ensures) (b .if1 .left)) .sizes) in
+    let most = z .objects in
+    let object = inside (a .t1 .sizes .objects) (a .object) (c .if2 .left) in
+    omega arith
 
 returns-3 : tie.Need-returns-3
 unfolding refusalOf refusals firstOf
 returns-3 c =
-    let b = c .before .before .before .before in
-    let some = c .before .before .if2 .left in
-    rw (passed (b .before .is-sound .ensures) (b .if1 .left), le-leb 1 _ (not-zero _ some), lt-leb _ _ (c .if3 .taken))
-
-sub-k : tie.Need-sub-k
-sub-k c = search needs
-
-element-copy-out-if4 : tie.Need-element-copy-out-if4
-element-copy-out-if4 c =
-    let b = c .before .before .before .before in
-    let z = limits (b .before .before .args .t1 .sizes) (taken-apart _ (passed (b .before .is-sound .ensures) (b .if1 .left)) .sizes) in
-    let most = z .objects in
-    omega arith
+    let b = c .before .before .before .before .before in
+    let a = b .before .before .args in
+    rw (
+      passed (b .before .is-sound .ensures) (b .if1 .left),
+      outside (a .t1 .sizes .objects) (a .object),
+      c .before .before .if2 .left,
+      c .if3 .taken,
+    )
 
 returns-4 : tie.Need-returns-4
 unfolding refusalOf refusals firstOf
 returns-4 c =
-    let b = c .before .before .before .before .before .before in
-    let some = c .before .before .before .before .if2 .left in
+    let b = c .before .before .before .before .before in
+    let a = b .before .before .args in
     rw (
       passed (b .before .is-sound .ensures) (b .if1 .left),
-      le-leb 1 _ (not-zero _ some),
-      le-leb _ _ (c .before .before .if3 .left),
-      c .if4 .taken,
-    )
-
-returns-5 : tie.Need-returns-5
-unfolding refusalOf refusals firstOf
-returns-5 c =
-    let b = c .before .before .before .before .before .before in
-    let some = c .before .before .before .before .if2 .left in
-    rw (
-      passed (b .before .is-sound .ensures) (b .if1 .left),
-      le-leb 1 _ (not-zero _ some),
-      le-leb _ _ (c .before .before .if3 .left),
-      c .if4 .left,
+      outside (a .t1 .sizes .objects) (a .object),
+      c .before .before .if2 .left,
+      c .if3 .left,
     )
 
 pub refusal-spec : {M : Type 1} → statement M
 refusal-spec =
     tie.close
-    (tie.spec
-    is-sound-requires
-    returns
-    returns-2
-    returns-3
-    sub-k
-    element-copy-out-if4
-    returns-4
-    returns-5)
+    (tie.spec is-sound-requires returns returns-2 sub-k element-copy-out-if3 returns-3 returns-4)

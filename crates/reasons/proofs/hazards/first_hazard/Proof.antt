@@ -39,50 +39,27 @@ loop-holds c =
     let l = c .before .before .scan in
     (l .inv .0, omega arith, omega arith, λ j less. l .inv .2 j (omega arith))
 
-mul-position : tie.Need-mul-position Inv-loop μ-loop Inv-scan μ-scan
-mul-position c =
-    let a = c .before .before .before .before .before .before .before .args in
-    let t = c .before .before .before .before .before .before .scan .thread in
-    let l = c .before .before .before .loop in
-    let under = l .inv .1 in
-    let here = inside (a .sizes .threads) (a .sizes .slots) t (l .slot) (omega arith) (omega arith) under (omega arith) in
-    record { fits = omega arith }
-
-add-position : tie.Need-add-position Inv-loop μ-loop Inv-scan μ-scan
-add-position c =
-    let a = c .before .before .before .before .before .before .before .args in
-    let t = c .before .before .before .before .before .before .scan .thread in
-    let l = c .before .before .before .loop in
-    let under = l .inv .1 in
-    let here = inside (a .sizes .threads) (a .sizes .slots) t (l .slot) (omega arith) (omega arith) under (omega arith) in
-    record { fits = omega arith }
+position-requires : tie.Need-position-requires Inv-loop μ-loop Inv-scan μ-scan
+position-requires c κs =
+    let a = c .before .before .before .before .before .before .args in
+    let t = c .before .before .before .before .before .scan .thread in
+    let l = c .before .before .loop in
+    inside (a .sizes .threads) (a .sizes .slots) t (l .slot) (omega arith) (omega arith) (l .inv .1) (omega arith)
 
 cast-p : tie.Need-cast-p Inv-loop μ-loop Inv-scan μ-scan
 cast-p c =
-    let a = c .before .before .before .before .before .before .before .args in
-    let t = c .before .before .before .before .before .before .scan .thread in
-    let l = c .before .before .before .loop in
-    let under = l .inv .1 in
-    let here = inside (a .sizes .threads) (a .sizes .slots) t (l .slot) (omega arith) (omega arith) under (omega arith) in
+    let here = c .position .ensures .1 in
     record { fits = omega arith }
 
 mul-held : tie.Need-mul-held Inv-loop μ-loop Inv-scan μ-scan
 mul-held c =
-    let a = c .before .before .before .before .before .before .before .args in
-    let t = c .before .before .before .before .before .before .scan .thread in
-    let l = c .before .before .before .loop in
-    let under = l .inv .1 in
-    let here = inside (a .sizes .threads) (a .sizes .slots) t (l .slot) (omega arith) (omega arith) under (omega arith) in
+    let here = c .position .ensures .1 in
     record { fits = omega arith }
 
 array-copy-out-held : tie.Need-array-copy-out-held Inv-loop μ-loop Inv-scan μ-scan
 array-copy-out-held c =
-    let a = c .before .before .before .before .before .before .before .args in
-    let t = c .before .before .before .before .before .before .scan .thread in
-    let l = c .before .before .before .loop in
-    let under = l .inv .1 in
-    let here = inside (a .sizes .threads) (a .sizes .slots) t (l .slot) (omega arith) (omega arith) under (omega arith) in
-    here
+    let here = c .position .ensures .1 in
+    omega arith
 
 add-slot : tie.Need-add-slot Inv-loop μ-loop Inv-scan μ-scan
 add-slot c = search needs
@@ -93,10 +70,11 @@ loop-less c = omega arith
 loop-again : tie.Need-loop-again Inv-loop μ-loop Inv-scan μ-scan
 loop-again c =
     let a = c .before .before .before .before .before .before .before .before .before .before .args in
-    let t = c .before .before .before .before .before .before .before .before .before .scan .thread in
     let l = c .before .before .before .before .before .before .loop in
+    let p = c .before .before .before .position in
+    let e = p .ensures .0 in
     let more =
-    none-more (λ j. eqb ((getD (a .t2) j emptySlot) .hazard) (a .object)) (t * a .sizes .slots + l .slot) (l .inv .3)
+    none-more (λ j. eqb ((getD (a .t2) j emptySlot) .hazard) (a .object)) (p .result) (λ j less. l .inv .3 j (omega arith))
     (ne-eqb _ _ (c .if3 .left))
     in
     (l .inv .0, l .inv .1, omega arith, λ j less. more j (omega arith))
@@ -128,11 +106,13 @@ returns-2 c =
     let a = c .before .before .before .before .before .before .before .before .before .before .args in
     let t = c .before .before .before .before .before .before .before .before .before .scan .thread in
     let l = c .before .before .before .before .before .before .loop in
-    found-at (a .sizes .threads * a .sizes .slots) (λ j. eqb ((getD (a .t2) j emptySlot) .hazard) (a .object))
-    (t * a .sizes .slots + l .slot)
-    (position-less (a .sizes .threads) (a .sizes .slots) t (l .slot) (l .inv .1) (omega arith))
+    let p = c .before .before .before .position in
+    let e = p .ensures .0 in
+    let less = position-less (a .sizes .threads) (a .sizes .slots) t (l .slot) (l .inv .1) (omega arith) in
+    found-at (a .sizes .threads * a .sizes .slots) (λ j. eqb ((getD (a .t2) j emptySlot) .hazard) (a .object)) (p .result)
+    (omega arith)
     (eq-eqb _ _ (c .if3 .taken))
-    (l .inv .3)
+    (λ j before. l .inv .3 j (omega arith))
 
 pub first-hazard-spec : {M : Type 1} → statement M
 first-hazard-spec =
@@ -144,8 +124,7 @@ first-hazard-spec =
     μ-scan
     scan-holds
     loop-holds
-    mul-position
-    add-position
+    position-requires
     cast-p
     mul-held
     array-copy-out-held
