@@ -1,5 +1,5 @@
 -- Laws of the lines of a state's objects: the next object's line, and none after the last. Assumes nothing.
-use Prim.Native.Nat.{ℕ, zero, suc, _+_, _-_, _≤_, _<_}
+use Prim.Native.Nat.{ℕ, suc, _+_, _-_, _≤_, _<_}
 use mathlib.Core.Path.{_≡_}
 use mathlib.Core.List.{[], _++_}
 use native.Mathlib.Omega.{arith}

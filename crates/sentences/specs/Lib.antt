@@ -1,7 +1,10 @@
--- What a reader has to believe: words with numbers filled in, an object's sentence, how a run ends, the text, a written buffer. `Worked`
--- computes one text.
+-- What a reader has to believe: words with numbers filled in, an object's sentence, how a run ends, the text, a written buffer. `Promise` has what
+-- is promised of them, `Worked` one text computed.
 pub mod Words
 pub mod Sentence
 pub mod Ends
 pub mod Told
 pub mod Lent
+pub mod Claims
+pub mod Laws
+pub mod Promise

@@ -1,7 +1,7 @@
 -- `sentences::filling::number_at` meets its contract: past the last of the four numbers a list has none. Assumes nothing.
 use mathlib.Core.Path.{sym}
 use native.Mathlib.Omega.{arith}
-use lib.ListN.{length, List·getD-eq-default}
+use lib.ListN.{List·getD-eq-default}
 use borrow.Author.Needs.{needs}
 use Rattle.sentences.proofs.filling.number_at.Statement.{statement}
 use Rattle.sentences.proofs.filling.number_at.Tie as tie

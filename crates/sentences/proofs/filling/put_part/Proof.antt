@@ -1,5 +1,4 @@
 -- `sentences::filling::put_part` meets its contract: the digits of the number, or the one byte. Assumes nothing.
-use mathlib.Core.Path.{_≡_}
 use native.Mathlib.Omega.{arith}
 use Rattle.lines.proofs.Appending.{one}
 use Rattle.sentences.proofs.Parts.{place-part, other-part}

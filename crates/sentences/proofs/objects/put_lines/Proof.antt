@@ -1,11 +1,10 @@
 -- `sentences::objects::put_lines` meets its contract. The invariant: the lines of the objects after the last one are still to come; each so
 -- far took at most 480 bytes. Assumes nothing.
-use Prim.Native.Nat.{_+_, _-_, _*_, _≤_, _<_}
+use Prim.Native.Nat.{_+_, _-_, _*_, _≤_}
 use mathlib.Core.Path.{_≡_}
 use mathlib.Core.List.{_++_}
 use native.Mathlib.Omega.{arith}
 use Rattle.lines.proofs.Appending.{Leads, leads-start, leads-on, leads-end}
-use Rattle.reasons.specs.Reasons.{whyOf}
 use Rattle.sentences.specs.Sentence.{lineOf}
 use Rattle.sentences.specs.Told.{linesFrom, linesOf}
 use Rattle.sentences.proofs.Nothing.{nothing}
