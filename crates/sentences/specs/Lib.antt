@@ -8,3 +8,4 @@ pub mod Lent
 pub mod Claims
 pub mod Laws
 pub mod Promise
+pub mod Worked

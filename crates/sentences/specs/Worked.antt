@@ -1,0 +1,44 @@
+-- The pulled card (`schedules/pulled-card.txt`) up to the moment at which the till is done with the old record and the payment task still reads
+-- it, computed.
+use Prim.Native.Nat.{ℕ}
+use mathlib.Core.Path.{_≡_, refl}
+use mathlib.Core.List.{List, [], _∷_, _++_}
+use Rattle.lines.specs.Computing.{computing}
+use Rattle.reasons.specs.First as first
+use Rattle.reasons.specs.Reasons as reasons
+use Rattle.sentences.specs.Words.{ascii, filled}
+use Rattle.sentences.specs.Sentence.{threadOf, slotOf, guardWords, reasonWords, hazardWords, lineOf}
+use Rattle.sentences.specs.Ends.{isEnd, lastOf, endAt, endFrom, endStarted, endSized, endFirst, endOf}
+use Rattle.sentences.specs.Told.{linesFrom, linesOf, textAt, textOf}
+
+-- sizes 2 1 1 2, then the first 16 steps as records
+unfoldable pub schedule : List ℕ
+schedule =
+    84 ∷ 83 ∷ 2 ∷ 1 ∷ 1 ∷ 2 ∷ 0 ∷ 0 ∷ 0 ∷ 0 ∷
+    84 ∷ 75 ∷ 0 ∷ 1 ∷ 0 ∷ 0 ∷ 89 ∷ 27 ∷ 0 ∷ 0 ∷
+    84 ∷ 75 ∷ 0 ∷ 3 ∷ 255 ∷ 0 ∷ 0 ∷ 0 ∷ 0 ∷ 0 ∷
+    84 ∷ 75 ∷ 1 ∷ 2 ∷ 0 ∷ 0 ∷ 0 ∷ 0 ∷ 0 ∷ 0 ∷
+    84 ∷ 75 ∷ 1 ∷ 7 ∷ 0 ∷ 0 ∷ 0 ∷ 0 ∷ 0 ∷ 0 ∷
+    84 ∷ 75 ∷ 1 ∷ 7 ∷ 0 ∷ 0 ∷ 0 ∷ 0 ∷ 0 ∷ 0 ∷
+    84 ∷ 75 ∷ 0 ∷ 1 ∷ 0 ∷ 0 ∷ 90 ∷ 27 ∷ 0 ∷ 0 ∷
+    84 ∷ 75 ∷ 0 ∷ 2 ∷ 0 ∷ 0 ∷ 0 ∷ 0 ∷ 0 ∷ 0 ∷
+    84 ∷ 75 ∷ 0 ∷ 7 ∷ 0 ∷ 0 ∷ 0 ∷ 0 ∷ 0 ∷ 0 ∷
+    84 ∷ 75 ∷ 0 ∷ 7 ∷ 0 ∷ 0 ∷ 0 ∷ 0 ∷ 0 ∷ 0 ∷
+    84 ∷ 75 ∷ 0 ∷ 3 ∷ 0 ∷ 0 ∷ 0 ∷ 0 ∷ 0 ∷ 0 ∷
+    84 ∷ 75 ∷ 0 ∷ 6 ∷ 0 ∷ 0 ∷ 0 ∷ 0 ∷ 0 ∷ 0 ∷
+    84 ∷ 75 ∷ 0 ∷ 7 ∷ 0 ∷ 0 ∷ 0 ∷ 0 ∷ 0 ∷ 0 ∷
+    84 ∷ 75 ∷ 0 ∷ 5 ∷ 0 ∷ 0 ∷ 0 ∷ 0 ∷ 0 ∷ 0 ∷
+    84 ∷ 75 ∷ 0 ∷ 7 ∷ 0 ∷ 0 ∷ 0 ∷ 0 ∷ 0 ∷ 0 ∷
+    84 ∷ 75 ∷ 0 ∷ 7 ∷ 0 ∷ 0 ∷ 0 ∷ 0 ∷ 0 ∷ 0 ∷
+    84 ∷ 75 ∷ 0 ∷ 7 ∷ 0 ∷ 0 ∷ 0 ∷ 0 ∷ 0 ∷ 0 ∷
+    []
+
+-- what is said: the old record waits for the payment task, the next order is in the link
+unfoldable pub said : List ℕ
+said =
+    ascii "object 1 was left in the handover of position 1 (thread 1, slot 0), whose hazard is this object, protected; first hazard: position 1 (thread 1, slot 0)\n" ++
+    ascii "object 2 is in link 0; no hazard\n"
+
+pub worked : textOf schedule ≡ said
+unfolding computing first.firstFrom reasons.guardOf reasons.carriedAt reasons.linkWith reasons.handWith reasons.carrierOf reasons.handoverWith reasons.reasonOf reasons.hazardAt reasons.hazardOf reasons.refusals reasons.refusalOf reasons.whyOf ascii filled threadOf slotOf guardWords reasonWords hazardWords lineOf isEnd lastOf endAt endFrom endStarted endSized endFirst endOf linesFrom linesOf textAt textOf schedule said
+worked = refl
