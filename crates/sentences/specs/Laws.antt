@@ -2,3 +2,4 @@
 pub mod Lasts
 pub mod Reaches
 pub mod Positions
+pub mod Enough

@@ -2,14 +2,17 @@
 use Prim.Native.Nat.{ℕ, _+_, _*_, _<_}
 use mathlib.Core.Path.{_≡_}
 use mathlib.Core.List.{List}
+use lib.ListN.{take}
 use Rattle.machine.specs.declared.State.{State}
 use Rattle.lines.specs.Run.{linesOf}
 use Rattle.sentences.specs.Sentence.{threadOf, slotOf}
 use Rattle.sentences.specs.Ends.{ended, endOf}
+use Rattle.sentences.specs.Told.{textOf}
 use Rattle.sentences.specs.Claims.{EndsAs, Reached}
 use Rattle.sentences.specs.Laws.Lasts as lasts
 use Rattle.sentences.specs.Laws.Reaches as reaches
 use Rattle.sentences.specs.Laws.Positions as positions
+use Rattle.sentences.specs.Laws.Enough as enough
 
 -- The state that the sentences are about is the one that the last line of the run counts, and where that line is `stop` there are none.
 pub ends-as-told : (input : List ℕ) → EndsAs (endOf input) (linesOf input)
@@ -24,3 +27,7 @@ pub position-told :
     (slots position : ℕ) → 0 < slots →
     (threadOf slots position * slots + slotOf slots position ≡ position) × (slotOf slots position < slots)
 position-told = positions.position-told
+
+-- The 60,020 bytes that decide the run's lines decide the sentences: what comes after them is never looked at.
+pub enough-read : (input : List ℕ) → textOf (take 60020 input) ≡ textOf input
+enough-read = enough.enough-read

@@ -54,7 +54,7 @@ read-by : (n : ℕ) (bs : List ℕ) → 10 ≤ n → Dec (length bs ≤ n) → r
 read-by n bs ten (yes all) = ap readOf (take-all n bs all)
 read-by n bs ten (no more) = read-front n bs ten (omega arith)
 
-read-same : (n : ℕ) (bs : List ℕ) → 10 ≤ n → readOf (take n bs) ≡ readOf bs
+pub read-same : (n : ℕ) (bs : List ℕ) → 10 ≤ n → readOf (take n bs) ≡ readOf bs
 read-same n bs ten = read-by n bs ten (decLe (length bs) n)
 
 drop-take : (k n : ℕ) (bs : List ℕ) → drop k (take (k + n) bs) ≡ take n (drop k bs)
@@ -63,7 +63,7 @@ drop-take (suc k) n [] = rw (suc-add, take-nil)
 drop-take (suc k) n (b ∷ bs) = rw suc-add (drop-take k n bs)
 
 -- after a record of either kind, the bytes left of a part are a part of the bytes left
-rest-same : (n : ℕ) (bs : List ℕ) (found : Read) → readOf bs ≡ found → ((l : List ℕ) → restAfter found l ≡ drop 10 l) → restOf (take (10 + n) bs) ≡ take n (restOf bs)
+pub rest-same : (n : ℕ) (bs : List ℕ) (found : Read) → readOf bs ≡ found → ((l : List ℕ) → restAfter found l ≡ drop 10 l) → restOf (take (10 + n) bs) ≡ take n (restOf bs)
 unfolding restOf
 rest-same n bs found e after =
     rw (read-same (10 + n) bs (omega arith), e, after (take (10 + n) bs), after bs) (drop-take 10 n bs)
