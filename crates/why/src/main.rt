@@ -1,0 +1,16 @@
+// Runs the schedule on standard input, writes its lines to standard output, and then why each object is still here.
+use libc::STDIN_FILENO;
+use libc::STDOUT_FILENO;
+
+fn main() {
+    // a sizes record, 6,000 steps and the record after them: no later byte can change a line or a sentence
+    let mut input = [0u8; 60020];
+    // room for every run, as `lines::run` asks; `sentences::tell` asks for less
+    let mut out = [0u8; 240080];
+    let got = io::read_full(STDIN_FILENO, &mut input);
+    let n = lines::run(&input[..got], &mut out);
+    // where standard output takes no more there is no one left to tell
+    io::write_all(STDOUT_FILENO, &out[..n]);
+    let m = sentences::tell(&input[..got], &mut out);
+    io::write_all(STDOUT_FILENO, &out[..m]);
+}
