@@ -23,6 +23,7 @@ fn slot_of(slots: u8, position: u8) -> u8
     if slots == 0 { 0 } else { position % slots }
 }
 
+// "whether that slot's hazard is the object and protected, is the object and only published, or is something else"
 fn put_guard(out: &mut [u8], at: usize, guard: Guard) -> usize
     requires { ⌜ at + 130 ≤ length (now out) ⌝ }
     ensures { λ r. ⌜ (r ≤ at + 130) × Appended (now (out .entry)) at (guardWords guard) (now (out .exit)) r ⌝ }
@@ -40,6 +41,7 @@ fn put_guard(out: &mut [u8], at: usize, guard: Guard) -> usize
     }
 }
 
+// Where the object was left, and how that slot stands to it.
 fn put_handover(
     out: &mut [u8],
     at: usize,
@@ -51,21 +53,18 @@ fn put_handover(
     requires { ⌜ at + 340 ≤ length (now out) ⌝ }
     ensures { λ r. ⌜ (r ≤ at + 340) × Appended (now (out .entry)) at (reasonWords slots object (Reason.Handover position guard)) (now (out .exit)) r ⌝ }
 {
-    let numbers = [
-        object,
-        position,
-        thread_of(slots, position),
-        slot_of(slots, position),
-    ];
+    let thread = thread_of(slots, position);
+    let slot = slot_of(slots, position);
     let next = put_filled(
         out,
         at,
         b"object % was left in the handover of position % (thread %, slot %), ",
-        numbers,
+        [object, position, thread, slot],
     );
     put_guard(out, next, guard)
 }
 
+// The one place that the object is in.
 fn put_reason(out: &mut [u8], at: usize, slots: u8, object: u8, reason: Reason) -> usize
     requires { ⌜ at + 340 ≤ length (now out) ⌝ }
     ensures { λ r. ⌜ (r ≤ at + 340) × Appended (now (out .entry)) at (reasonWords slots object reason) (now (out .exit)) r ⌝ }
@@ -100,22 +99,22 @@ fn put_reason(out: &mut [u8], at: usize, slots: u8, object: u8, reason: Reason) 
     }
 }
 
+// "the first position in scan order that holds it as a hazard, or none", and the end of the line
 fn put_hazard(out: &mut [u8], at: usize, slots: u8, hazard: Hazard) -> usize
     requires { ⌜ at + 140 ≤ length (now out) ⌝ }
     ensures { λ r. ⌜ (r ≤ at + 140) × Appended (now (out .entry)) at (hazardWords slots hazard) (now (out .exit)) r ⌝ }
 {
     match hazard {
-        Hazard::At(position) => put_filled(
-            out,
-            at,
-            b"; first hazard: position % (thread %, slot %)\n",
-            [
-                position,
-                thread_of(slots, position),
-                slot_of(slots, position),
-                0,
-            ],
-        ),
+        Hazard::At(position) => {
+            let thread = thread_of(slots, position);
+            let slot = slot_of(slots, position);
+            put_filled(
+                out,
+                at,
+                b"; first hazard: position % (thread %, slot %)\n",
+                [position, thread, slot, 0],
+            )
+        }
         Hazard::Nowhere => put_filled(out, at, b"; no hazard\n", [0, 0, 0, 0]),
     }
 }

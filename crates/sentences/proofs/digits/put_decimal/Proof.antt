@@ -19,7 +19,7 @@ same-length : tie.Need-same-length
 same-length c = search needs
 
 returns : tie.Need-returns
-returns c = (omega arith, put-one _ _ _ (c .before .pre) (c .if1 .taken))
+returns c = (omega arith, put-one _ _ _ (c .before .pre) (omega arith))
 
 add-second : tie.Need-add-second
 add-second c = search needs
@@ -43,7 +43,7 @@ same-length-2 : tie.Need-same-length-2
 same-length-2 c = search needs
 
 returns-2 : tie.Need-returns-2
-returns-2 c = (omega arith, put-two _ _ _ (c .before .before .pre) (omega arith) (c .if2 .taken))
+returns-2 c = (omega arith, put-two _ _ _ (c .before .before .pre) (omega arith) (omega arith))
 
 add-third : tie.Need-add-third
 add-third c = search needs
@@ -73,7 +73,7 @@ same-length-3 : tie.Need-same-length-3
 same-length-3 c = search needs
 
 returns-3 : tie.Need-returns-3
-returns-3 c = (omega arith, put-three _ _ _ (c .before .before .pre) (c .if2 .left) (omega arith))
+returns-3 c = (omega arith, put-three _ _ _ (c .before .before .pre) (omega arith) (omega arith))
 
 pub put-decimal-spec : {M : Type 1} → statement M
 put-decimal-spec =

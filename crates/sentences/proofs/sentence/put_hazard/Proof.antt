@@ -9,14 +9,14 @@ use Rattle.sentences.proofs.sentence.put_hazard.Tie as tie
 enum-known-hazard : tie.Need-enum-known-hazard
 enum-known-hazard c = search needs
 
-slice-aggregate-put-filled : tie.Need-slice-aggregate-put-filled
-slice-aggregate-put-filled c = search needs
-
 thread-of-requires : tie.Need-thread-of-requires
 thread-of-requires c κs = search needs
 
 slot-of-requires : tie.Need-slot-of-requires
 slot-of-requires c κs = search needs
+
+slice-aggregate-put-filled : tie.Need-slice-aggregate-put-filled
+slice-aggregate-put-filled c = search needs
 
 put-filled-requires : tie.Need-put-filled-requires
 put-filled-requires c κs = search needs
@@ -35,7 +35,7 @@ same-length c = search needs
 
 returns : tie.Need-returns
 unfolding hazardWords filled ascii
-returns c = (omega (arith, c .before .before .put-filled .ensures .0), rw (c .before .before .before .before .before .before .before .before .hazard .given .1, ← c .before .before .before .before .thread-of .ensures, ← c .before .before .before .slot-of .ensures) (c .before .before .put-filled .ensures .1))
+returns c = (omega (arith, c .before .before .put-filled .ensures .0), rw (c .before .before .before .before .before .before .before .before .hazard .given .1, ← c .before .before .before .before .before .before .thread-of .ensures, ← c .before .before .before .before .before .slot-of .ensures) (c .before .before .put-filled .ensures .1))
 
 same-length-2 : tie.Need-same-length-2
 same-length-2 c = search needs
@@ -49,9 +49,9 @@ put-hazard-spec =
     tie.close
     (tie.spec
     enum-known-hazard
-    slice-aggregate-put-filled
     thread-of-requires
     slot-of-requires
+    slice-aggregate-put-filled
     put-filled-requires
     enum-told
     slice-aggregate-put-filled-2
