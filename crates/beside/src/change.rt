@@ -6,10 +6,10 @@ use crate::plain;
 use crate::run;
 use crate::totals;
 use crate::totals::Totals;
-use machine::Phase;
-use machine::Slot;
+use entries::Phase;
+use entries::Slot;
+use entries::Thread;
 use machine::State;
-use machine::Thread;
 
 fn phase(seed: usize, h: usize, l: usize, n: usize) -> Phase {
     let slot = plain::byte(dice::pick(seed, 11, h));

@@ -1,7 +1,7 @@
 // The first machine's types as plain numbers, by 01's numbering.
+use entries::Phase;
 use machine::Answer;
 use machine::Call;
-use machine::Phase;
 use machine::State;
 use machine::Verdict;
 use twin::Order;

@@ -5,15 +5,15 @@ use mathlib.Core.Path.{_≡_, refl, subst}
 use mathlib.Core.Bool.{cond, not, _&&_}
 use mathlib.Core.List.{List, [], _∷_}
 use lib.Dec.{T, eqb, T-not, eqb-refl}
-use Rattle.machine.specs.declared.Sizes.{Sizes}
+use Rattle.entries.specs.declared.Sizes.{Sizes}
 use Rattle.machine.specs.declared.State.{State}
 use Rattle.machine.specs.declared.Call.{Call}
 use Rattle.machine.specs.declared.Answer.{Answer}
 use Rattle.machine.specs.declared.Answer.the-variants.{Refused, Begun, Working}
 use Rattle.machine.specs.declared.Outcome.{Outcome}
 use Rattle.machine.specs.Parts.{handOf, phaseOf, freeAt}
-use Rattle.machine.specs.Phases.{isIdle}
-use Rattle.machine.specs.Soundness.{bit}
+use Rattle.entries.specs.Phases.{isIdle}
+use Rattle.entries.specs.Entries.{bit}
 use Rattle.machine.specs.Calls.{outcome, retireOf}
 use Rattle.machine.specs.GoOn.{goOnOf}
 use Rattle.machine.specs.Answers.{numbersOf}

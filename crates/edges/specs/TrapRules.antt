@@ -3,12 +3,12 @@ use Prim.Native.Nat.{ℕ, suc}
 use mathlib.Core.Bool.{Bool, true, false, cond, not, _&&_, _||_}
 use lib.Dec.{leb, ltb, eqb}
 use Rattle.machine.specs.declared.State.{State}
-use Rattle.machine.specs.declared.Phase.the-variants.{Idle, Draining, Look, Swap}
+use Rattle.entries.specs.declared.Phase.the-variants.{Idle, Draining, Look, Swap}
 use Rattle.machine.specs.declared.Outcome.{Outcome}
 use Rattle.machine.specs.declared.Answer.the-variants.{Begun, Working, Protected, Nothing, Finished, Left, Freed}
-use Rattle.machine.specs.Sizes.{positions}
+use Rattle.entries.specs.Sizes.{positions}
 use Rattle.machine.specs.Parts.{slotAt, positionOf, tagOf, withSlot, withObject}
-use Rattle.machine.specs.Soundness.{below}
+use Rattle.entries.specs.Entries.{below}
 use Rattle.machine.specs.Calls.{outcome, holding, clearOf}
 use Rattle.machine.specs.GoOn.{become, leaving, publishOf, confirmOf, drainOf, lookOf, handOverOf}
 use Rattle.edges.specs.Rules.{Rules}

@@ -5,12 +5,12 @@ use mathlib.Core.Bool.{_&&_}
 use mathlib.Core.List.{List, [], _∷_, map}
 use lib.Dec.{eqb}
 use lib.ListN.{drop}
-use Rattle.machine.specs.declared.Sizes.{Sizes}
+use Rattle.entries.specs.declared.Sizes.{Sizes}
 use Rattle.machine.specs.declared.State.{State}
 use Rattle.machine.specs.declared.Call.{Call}
 use Rattle.machine.specs.Parts.{freeAt}
 use Rattle.machine.specs.Step.{doneOf, stepOf}
-use Rattle.machine.specs.Count.{howMany, some}
+use Rattle.entries.specs.Entries.{howMany, some}
 use Rattle.edges.specs.Laws.Computing.{computing}
 use Rattle.edges.specs.Runs.{six, sizes, call, on, Machine, started, stepLine}
 use Rattle.edges.specs.Laws.Quick.{quickly, slow-is-quick, step-is-quick, quick-computes}

@@ -7,8 +7,8 @@ use Rattle.machine.specs.declared.State.{State}
 use Rattle.machine.specs.declared.Call.{Call}
 use Rattle.machine.specs.declared.Outcome.{Outcome}
 use Rattle.machine.specs.declared.Answer.the-variants.{Taken, Begun, Working, Protected, Nothing, Swapped, Moved, Tag, Finished, Left, Freed}
-use Rattle.machine.specs.declared.Phase.the-variants.{Idle, Loaded, Published, Draining, Look, Swap}
-use Rattle.machine.specs.Sizes.{positions}
+use Rattle.entries.specs.declared.Phase.the-variants.{Idle, Loaded, Published, Draining, Look, Swap}
+use Rattle.entries.specs.Sizes.{positions}
 use Rattle.machine.specs.Parts.{linkAt, handOf, phaseOf, slotAt, positionOf, tagOf}
 use Rattle.machine.specs.Calls.{nextFree, expected, holding}
 use Rattle.machine.specs.GoOn.{leaving}

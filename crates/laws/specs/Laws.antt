@@ -4,10 +4,10 @@ use mathlib.Core.Path.{_≡_}
 use mathlib.Core.Bool.{true, false}
 use mathlib.Core.Logic.{_↔_}
 use Rattle.machine.specs.declared.State.{State}
-use Rattle.machine.specs.declared.Sizes.{Sizes}
+use Rattle.entries.specs.declared.Sizes.{Sizes}
 use Rattle.machine.specs.declared.Call.{Call}
 use Rattle.machine.specs.declared.Answer.the-variants.{Refused}
-use Rattle.machine.specs.Sizes.{inRange}
+use Rattle.entries.specs.Sizes.{inRange}
 use Rattle.machine.specs.Soundness.{sound}
 use Rattle.machine.specs.Fresh.{freshOf, blank}
 use Rattle.machine.specs.Answers.{numbersOf, numbers}

@@ -12,7 +12,7 @@ use Rattle.machine.specs.Parts.{slotAt, positionOf}
 use Rattle.machine.specs.Soundness.{sound}
 use Rattle.machine.specs.Calls.{nextFree}
 use Rattle.machine.specs.Refusals.{usesSlot, usesLink, withoutSlot, protectedAt, refusals, refusalOf}
-use Rattle.machine.proofs.Flags.{both}
+use Rattle.entries.proofs.Flags.{both}
 use Rattle.machine.proofs.Truth.{either, second-false}
 use Rattle.machine.proofs.Bounds.{thread-limited, link-limited, position-below, position-limited, hazard-object}
 use Rattle.machine.proofs.Table.{NoneApplies, all-pass}

@@ -8,14 +8,15 @@ use native.Mathlib.Omega.{arith}
 use lib.Dec.{leb, eqb}
 use lib.ListN.{getD}
 use borrow.Author.Tests.{leb-true, eqb-true, eqb-false, not-true, lt-ltb}
-use Rattle.machine.specs.declared.Sizes.{Sizes}
+use Rattle.entries.specs.declared.Sizes.{Sizes}
 use Rattle.machine.specs.declared.State.{State}
-use Rattle.machine.specs.Sizes.{inRange, allZero, positions, within}
+use Rattle.entries.specs.Sizes.{inRange, allZero, positions, within}
 use Rattle.machine.specs.Parts.{linkAt, threadAt, phaseOf, slotAt, positionOf}
-use Rattle.machine.specs.Phases.{phaseInRange}
-use Rattle.machine.specs.Soundness.{below, shaped, sizesGood, linkGood, threadGood, slotGood, freeGood, tagGood, places, sound}
-use Rattle.machine.proofs.Below.{below-at}
-use Rattle.machine.proofs.Flags.{both}
+use Rattle.entries.specs.Phases.{phaseInRange}
+use Rattle.machine.specs.Soundness.{shaped, places, sound}
+use Rattle.entries.specs.Entries.{below, sizesGood, linkGood, threadGood, slotGood, freeGood, tagGood}
+use Rattle.entries.proofs.Below.{below-at}
+use Rattle.entries.proofs.Flags.{both}
 use Rattle.machine.proofs.Truth.{either, three, four}
 
 -- the parts of soundness that bound a number

@@ -6,12 +6,12 @@ use native.Mathlib.Nat.{le-trans, lt-of-lt-of-le}
 use lib.Dec.{ltb, leb}
 use borrow.Author.Tests.{ltb-true, leb-true}
 use Rattle.machine.specs.declared.State.{State}
-use Rattle.machine.specs.declared.Phase.the-variants.{Loaded, Published, Draining, Look, Swap}
-use Rattle.machine.specs.Sizes.{positions, within}
+use Rattle.entries.specs.declared.Phase.the-variants.{Loaded, Published, Draining, Look, Swap}
+use Rattle.entries.specs.Sizes.{positions, within}
 use Rattle.machine.specs.Parts.{phaseOf, positionOf}
-use Rattle.machine.specs.Phases.{phaseInRange}
+use Rattle.entries.specs.Phases.{phaseInRange}
 use Rattle.machine.specs.Soundness.{sound}
-use Rattle.machine.proofs.Flags.{both}
+use Rattle.entries.proofs.Flags.{both}
 use Rattle.machine.proofs.Truth.{three}
 use Rattle.machine.proofs.Bounds.{sizes-limited, positions-limited, position-limited, phase-ranged}
 

@@ -5,10 +5,10 @@ use Prim.Native.Nat.{_≤_}
 use native.Mathlib.Omega.{arith}
 use lib.Dec.{leb, eqb}
 use borrow.Author.Tests.{leb-true, eqb-true}
-use Rattle.machine.specs.declared.Sizes.{Sizes}
-use Rattle.machine.specs.Sizes.{within, inRange, allZero}
-use Rattle.machine.specs.Soundness.{sizesGood}
-use Rattle.machine.proofs.Flags.{both}
+use Rattle.entries.specs.declared.Sizes.{Sizes}
+use Rattle.entries.specs.Sizes.{within, inRange, allZero}
+use Rattle.entries.specs.Entries.{sizesGood}
+use Rattle.entries.proofs.Flags.{both}
 
 pub objects-most : (z : Sizes) → inRange z ≡ true → z .objects ≤ 240
 unfolding inRange

@@ -8,15 +8,16 @@ use lib.ListN.{length, getD, replicate}
 use lib.Dec.{eqb}
 use borrow.Author.Tests.{eq-eqb}
 use Rattle.machine.specs.declared.State.{State}
-use Rattle.machine.specs.declared.Thread.{Thread}
-use Rattle.machine.specs.declared.Slot.{Slot}
-use Rattle.machine.specs.Phases.{carriedBy}
-use Rattle.machine.specs.Soundness.{below, bit, shaped, sizesGood, linkGood, threadGood, slotGood, freeGood, tagGood, places}
+use Rattle.entries.specs.declared.Thread.{Thread}
+use Rattle.entries.specs.declared.Slot.{Slot}
+use Rattle.entries.specs.Phases.{carriedBy}
+use Rattle.machine.specs.Soundness.{shaped, places}
+use Rattle.entries.specs.Entries.{below, bit, sizesGood, linkGood, threadGood, slotGood, freeGood, tagGood}
 use Rattle.machine.specs.Parts.{linkAt, threadAt, slotAt}
-use Rattle.machine.specs.Tally.{tallied}
-use Rattle.machine.proofs.Flags.{and-so}
-use Rattle.machine.proofs.Below.{below-same}
-use Rattle.machine.proofs.Counting.{nothing-at, length-tallied, tallied-at}
+use Rattle.entries.specs.Tally.{tallied}
+use Rattle.entries.proofs.Flags.{and-so}
+use Rattle.entries.proofs.Below.{below-same}
+use Rattle.entries.proofs.Counting.{nothing-at, length-tallied, tallied-at}
 
 pub shaped-so : (s : State) → length (s .links) ≡ 16 → length (s .threads) ≡ 8 → length (s .slots) ≡ 32 → length (s .free) ≡ 240 → length (s .tags) ≡ 240 → shaped s ≡ true
 unfolding shaped

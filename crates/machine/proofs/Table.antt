@@ -5,17 +5,17 @@ use mathlib.Core.List.{List, [], _∷_, _++_}
 use mathlib.Core.Path.{_≡_, refl, sym, _∙_}
 use lib.Dec.{ltb, eqb}
 use borrow.Author.Tests.{eqb-false, not-true}
-use Rattle.machine.specs.declared.Sizes.{Sizes}
-use Rattle.machine.specs.declared.Thread.{Thread}
+use Rattle.entries.specs.declared.Sizes.{Sizes}
+use Rattle.entries.specs.declared.Thread.{Thread}
 use Rattle.machine.specs.declared.State.{State}
 use Rattle.machine.specs.declared.Call.{Call}
-use Rattle.machine.specs.Sizes.{within}
+use Rattle.entries.specs.Sizes.{within}
 use Rattle.machine.specs.Parts.{threadAt}
-use Rattle.machine.specs.Phases.{isIdle}
+use Rattle.entries.specs.Phases.{isIdle}
 use Rattle.machine.specs.Soundness.{sound}
 use Rattle.machine.specs.Calls.{nextFree}
 use Rattle.machine.specs.Refusals.{Row, _when_, firstOf, usesSlot, usesLink, unusedNotZero, withoutSlot, protectedAt, refusals, refusalOf}
-use Rattle.machine.proofs.Flags.{both}
+use Rattle.entries.proofs.Flags.{both}
 
 -- no line's number is 0, which stands for no refusal
 unfoldable pub numbered : List Row → Bool

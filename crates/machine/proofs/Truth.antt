@@ -3,7 +3,7 @@ use mathlib.Core.Bool.{Bool, true, false, _&&_, _||_}
 use mathlib.Core.Path.{_≡_, refl, sym, subst}
 use mathlib.Core.Logic.{_⊎_, inl, inr}
 use lib.Dec.{T}
-use Rattle.machine.proofs.Flags.{both}
+use Rattle.entries.proofs.Flags.{both}
 
 pub never : {A : Type 0} → true ≡ false → A
 never e = absurd (subst T e tt)

@@ -4,11 +4,11 @@ use mathlib.Core.Bool.{Bool, true, false, cond}
 use mathlib.Core.List.{List, [], _∷_}
 use lib.Dec.{eqb}
 use Rattle.machine.specs.declared.State.{State}
-use Rattle.machine.specs.declared.Slot.{Slot}
+use Rattle.entries.specs.declared.Slot.{Slot}
 use Rattle.machine.specs.declared.Outcome.{Outcome}
 use Rattle.machine.specs.declared.Answer.{Answer}
 use Rattle.machine.specs.declared.Answer.the-variants.{Taken, Begun, Swapped, Moved, Tag}
-use Rattle.machine.specs.declared.Phase.the-variants.{Loaded, Draining, Look}
+use Rattle.entries.specs.declared.Phase.the-variants.{Loaded, Draining, Look}
 use Rattle.machine.specs.Parts.{linkAt, handOf, phaseOf, slotAt, positionOf, tagOf, withLink, withThread, withSlot, withObject}
 
 abbrev pub outcome : State → Answer → Outcome

@@ -1,24 +1,13 @@
 -- The five places, counted: free, in links, in hands, in handovers, carried. "The count of the five places on an unsound state is refused
 -- 19 with five zeros."
-use Prim.Native.Nat.{ℕ, _+_}
-use mathlib.Core.Bool.{Bool, cond, not}
-use mathlib.Core.List.{List, [], _∷_}
-use lib.Dec.{eqb}
+use mathlib.Core.Bool.{cond}
 use Rattle.machine.specs.declared.State.{State}
 use Rattle.machine.specs.declared.Places.{Places}
 use Rattle.machine.specs.declared.Counted.{Counted}
 use Rattle.machine.specs.declared.Verdict.the-variants.{Good, Refused}
-use Rattle.machine.specs.Phases.{carriedBy}
-use Rattle.machine.specs.Soundness.{bit, sound}
-
--- how many elements pass the test
-unfoldable pub howMany : {A : Type 0} → (A → Bool) → List A → ℕ
-howMany test [] = 0
-howMany test (x ∷ xs) = bit (test x) + howMany test xs
-
--- "0 means no object"
-abbrev pub some : ℕ → Bool
-some object = not (eqb object 0)
+use Rattle.entries.specs.Phases.{carriedBy}
+use Rattle.machine.specs.Soundness.{sound}
+use Rattle.entries.specs.Entries.{howMany, some}
 
 unfoldable pub placesOf : State → Places
 placesOf s =

@@ -4,12 +4,12 @@ use Prim.Native.Nat.{ℕ, _-_}
 use mathlib.Core.Bool.{Bool, true, false, cond}
 use mathlib.Core.List.{List, _++_}
 use lib.ListN.{replicate}
-use Rattle.machine.specs.declared.Sizes.{Sizes}
+use Rattle.entries.specs.declared.Sizes.{Sizes}
 use Rattle.machine.specs.declared.State.{State}
 use Rattle.machine.specs.declared.Started.{Started}
 use Rattle.machine.specs.declared.Verdict.the-variants.{Good, Refused}
-use Rattle.machine.specs.Sizes.{inRange}
-use Rattle.machine.specs.Parts.{idleThread, emptySlot}
+use Rattle.entries.specs.Sizes.{inRange}
+use Rattle.entries.specs.Entries.{idleThread, emptySlot}
 
 -- the free marks of which the first n are on
 unfoldable pub marked : ℕ → List Bool

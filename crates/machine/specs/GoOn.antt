@@ -3,12 +3,12 @@ use Prim.Native.Nat.{ℕ, suc}
 use mathlib.Core.Bool.{true, false, cond}
 use lib.Dec.{ltb, eqb}
 use Rattle.machine.specs.declared.State.{State}
-use Rattle.machine.specs.declared.Slot.{Slot}
+use Rattle.entries.specs.declared.Slot.{Slot}
 use Rattle.machine.specs.declared.Outcome.{Outcome}
 use Rattle.machine.specs.declared.Answer.the-variants.{Refused, Working, Protected, Nothing, Finished, Left, Freed}
-use Rattle.machine.specs.declared.Phase.{Phase}
-use Rattle.machine.specs.declared.Phase.the-variants.{Idle, Loaded, Published, Draining, Look, Swap}
-use Rattle.machine.specs.Sizes.{positions}
+use Rattle.entries.specs.declared.Phase.{Phase}
+use Rattle.entries.specs.declared.Phase.the-variants.{Idle, Loaded, Published, Draining, Look, Swap}
+use Rattle.entries.specs.Sizes.{positions}
 use Rattle.machine.specs.Parts.{linkAt, handOf, phaseOf, slotAt, positionOf, tagOf, withThread, withSlot, withObject}
 use Rattle.machine.specs.Calls.{outcome, holding}
 

@@ -1,9 +1,6 @@
 -- Document 01 as definitions, one file for each part of its text, in its order.
-pub mod Sizes
 pub mod Parts
-pub mod Phases
 pub mod Soundness
-pub mod Tally
 pub mod Fresh
 pub mod Calls
 pub mod GoOn

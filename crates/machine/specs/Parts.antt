@@ -4,16 +4,10 @@ use Prim.Native.Nat.{ℕ, _+_, _*_, _-_}
 use mathlib.Core.Bool.{Bool, false}
 use lib.ListN.{getD, set}
 use Rattle.machine.specs.declared.State.{State}
-use Rattle.machine.specs.declared.Thread.{Thread}
-use Rattle.machine.specs.declared.Slot.{Slot}
-use Rattle.machine.specs.declared.Phase.{Phase}
-use Rattle.machine.specs.declared.Phase.the-variants.{Idle}
-
-abbrev pub idleThread : Thread
-idleThread = record { hand = 0; phase = Idle }
-
-abbrev pub emptySlot : Slot
-emptySlot = record { hazard = 0; mark = false; handover = 0 }
+use Rattle.entries.specs.declared.Thread.{Thread}
+use Rattle.entries.specs.declared.Slot.{Slot}
+use Rattle.entries.specs.declared.Phase.{Phase}
+use Rattle.entries.specs.Entries.{idleThread, emptySlot}
 
 -- "per link: an object or 0"
 abbrev pub linkAt : State → ℕ → ℕ

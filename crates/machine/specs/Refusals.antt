@@ -5,9 +5,9 @@ use mathlib.Core.List.{List, [], _∷_}
 use lib.Dec.{ltb, eqb}
 use Rattle.machine.specs.declared.State.{State}
 use Rattle.machine.specs.declared.Call.{Call}
-use Rattle.machine.specs.Sizes.{within}
+use Rattle.entries.specs.Sizes.{within}
 use Rattle.machine.specs.Parts.{handOf, phaseOf, slotAt, positionOf}
-use Rattle.machine.specs.Phases.{isIdle}
+use Rattle.entries.specs.Phases.{isIdle}
 use Rattle.machine.specs.Soundness.{sound}
 use Rattle.machine.specs.Calls.{nextFree}
 

@@ -1,19 +1,20 @@
 // The table of calls: what each does when it is accepted. Going on is in go_on.rt, what is accepted in refusals.rt.
 use crate::Answer;
 use crate::Outcome;
-use crate::Phase;
-use crate::Sizes;
-use crate::Slot;
 use crate::State;
-use crate::Thread;
 use crate::parts::position;
 use crate::parts::slot_at;
+use entries::Phase;
+use entries::Sizes;
+use entries::Slot;
+use entries::Thread;
 ghost use mathlib.Core.Path.{_≡_};
 ghost use mathlib.Core.Bool.{cond};
 ghost use Prim.Native.Nat.{_+_, _*_, _<_, _≤_};
 ghost use lib.ListN.{length, getD};
 ghost use lib.Dec.{eqb};
-ghost use Rattle.machine.specs.Parts.{emptySlot, positionOf, slotAt};
+ghost use Rattle.machine.specs.Parts.{positionOf, slotAt};
+ghost use Rattle.entries.specs.Entries.{emptySlot};
 ghost use Rattle.machine.specs.Calls.{firstOn, nextFree, takeOf, protectOf, swapOf, readOf, retireOf, clearOf};
 
 // The number of the first mark that is on; 0 where none is.

@@ -1,22 +1,17 @@
 // The count of the five places: "objects free, in links, in hands, in handovers, carried".
 use crate::Counted;
 use crate::Places;
-use crate::Slot;
 use crate::State;
-use crate::Thread;
 use crate::Verdict;
-use crate::ranges::carried;
+use entries::are_carried;
+use entries::bit;
+use entries::in_handovers;
+use entries::in_hands;
+use entries::in_links;
 ghost use mathlib.Core.Path.{_≡_};
 ghost use lib.ListN.{length};
-ghost use Rattle.machine.specs.Phases.{carriedBy};
-ghost use Rattle.machine.specs.Soundness.{bit};
-ghost use Rattle.machine.specs.Count.{howMany, some, countOf};
-
-fn bit(yes: bool) -> u8
-    ensures { λ r. ⌜ r ≡ bit yes ⌝ }
-{
-    if yes { 1 } else { 0 }
-}
+ghost use Rattle.machine.specs.Count.{countOf};
+ghost use Rattle.entries.specs.Entries.{howMany};
 
 fn are_free(free: &[bool; 240]) -> u8
     requires { ⌜ length (now free) ≡ 240 ⌝ }
@@ -26,58 +21,6 @@ fn are_free(free: &[bool; 240]) -> u8
     let mut i = 0;
     while i < 240 {
         n += bit(free[i]);
-        i += 1;
-    }
-    n
-}
-
-fn in_links(links: [u8; 16]) -> u8
-    ensures { λ r. ⌜ r ≡ howMany some links ⌝ }
-{
-    let mut n = 0;
-    let mut i = 0;
-    while i < 16 {
-        n += bit(links[i] != 0);
-        i += 1;
-    }
-    n
-}
-
-fn in_hands(threads: [Thread; 8]) -> u8
-    ensures { λ r. ⌜ r ≡ howMany (λ thread. some (thread .hand)) threads ⌝ }
-{
-    let mut n = 0;
-    let mut i = 0;
-    while i < 8 {
-        let thread = threads[i];
-        n += bit(thread.hand != 0);
-        i += 1;
-    }
-    n
-}
-
-fn in_handovers(slots: [Slot; 32]) -> u8
-    ensures { λ r. ⌜ r ≡ howMany (λ slot. some (slot .handover)) slots ⌝ }
-{
-    let mut n = 0;
-    let mut i = 0;
-    while i < 32 {
-        let slot = slots[i];
-        n += bit(slot.handover != 0);
-        i += 1;
-    }
-    n
-}
-
-fn are_carried(threads: [Thread; 8]) -> u8
-    ensures { λ r. ⌜ r ≡ howMany (λ thread. some (carriedBy (thread .phase))) threads ⌝ }
-{
-    let mut n = 0;
-    let mut i = 0;
-    while i < 8 {
-        let thread = threads[i];
-        let phase = thread.phase;
-        n += bit(carried(phase) != 0);
         i += 1;
     }
     n

@@ -1,16 +1,16 @@
 // Starting: "A fresh machine has every object free, tags 0, all else 0 and idle."
-use crate::Phase;
-use crate::Sizes;
-use crate::Slot;
 use crate::Started;
 use crate::State;
-use crate::Thread;
 use crate::Verdict;
-use crate::ranges::in_range;
+use entries::Phase;
+use entries::Sizes;
+use entries::Slot;
+use entries::Thread;
+use entries::in_range;
 ghost use mathlib.Core.Path.{_≡_};
 ghost use Prim.Native.Nat.{_≤_};
 ghost use lib.ListN.{replicate};
-ghost use Rattle.machine.specs.Parts.{idleThread, emptySlot};
+ghost use Rattle.entries.specs.Entries.{idleThread, emptySlot};
 ghost use Rattle.machine.specs.Fresh.{marked, startOf};
 
 // "the first N then marked free"

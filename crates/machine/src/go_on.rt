@@ -1,15 +1,15 @@
 // "Go on": one step, by what the thread is in the middle of.
 use crate::Answer;
 use crate::Outcome;
-use crate::Phase;
-use crate::Slot;
 use crate::State;
-use crate::Thread;
 use crate::parts::position;
+use entries::Phase;
+use entries::Slot;
+use entries::Thread;
 ghost use mathlib.Core.Path.{_≡_};
 ghost use mathlib.Core.Bool.{true};
 ghost use Prim.Native.Nat.{_<_, _≤_};
-ghost use Rattle.machine.specs.Sizes.{positions};
+ghost use Rattle.entries.specs.Sizes.{positions};
 ghost use Rattle.machine.specs.Parts.{linkAt, positionOf};
 ghost use Rattle.machine.specs.Soundness.{sound};
 ghost use Rattle.machine.specs.GoOn.{publishOf, confirmOf, drainOf, lookOf, handOverOf, goOnOf};

@@ -1,45 +1,17 @@
 // The record machine: the state, start, the soundness check, one step, and the count of the five places.
 mod calls;
 mod count;
-mod entries;
 mod fresh;
 mod go_on;
 mod parts;
-mod ranges;
 mod refusals;
 mod soundness;
 mod step;
-mod tally;
 
+use entries::Sizes;
+use entries::Slot;
+use entries::Thread;
 pub use fresh::start;
-
-pub struct Sizes {
-    pub threads: u8,
-    pub slots: u8,
-    pub links: u8,
-    pub objects: u8,
-}
-
-// What a thread is in the middle of.
-pub enum Phase {
-    Idle,
-    Loaded { slot: u8, link: u8, object: u8 },
-    Published { slot: u8, link: u8 },
-    Draining { slot: u8 },
-    Look { object: u8, position: u8 },
-    Swap { object: u8, position: u8 },
-}
-
-pub struct Thread {
-    pub hand: u8,
-    pub phase: Phase,
-}
-
-pub struct Slot {
-    pub hazard: u8,
-    pub mark: bool,
-    pub handover: u8,
-}
 
 pub struct State {
     pub sizes: Sizes,

@@ -1,9 +1,9 @@
 // The parts of a state, read by their number. Each function is given the part that it reads, not the state.
-use crate::Slot;
+use entries::Slot;
 ghost use mathlib.Core.Path.{_≡_};
 ghost use Prim.Native.Nat.{_+_, _*_, _<_};
 ghost use lib.ListN.{getD};
-ghost use Rattle.machine.specs.Parts.{emptySlot};
+ghost use Rattle.entries.specs.Entries.{emptySlot};
 
 // "A slot's position is thread × H + slot"
 pub(crate) fn position(thread: u8, slots: u8, slot: u8) -> u8

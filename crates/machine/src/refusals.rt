@@ -1,22 +1,22 @@
 // "The first that applies is given, in this order, and never otherwise."
 use crate::Call;
-use crate::Sizes;
-use crate::Slot;
 use crate::State;
-use crate::Thread;
 use crate::calls::first_on;
 use crate::parts::position;
 use crate::parts::slot_at;
-use crate::ranges::is_idle;
+use entries::Sizes;
+use entries::Slot;
+use entries::Thread;
+use entries::is_idle;
 ghost use mathlib.Core.Path.{_≡_};
 ghost use mathlib.Core.Bool.{true, not, _&&_, _||_};
 ghost use mathlib.Core.List.{[], _∷_};
 ghost use Prim.Native.Nat.{_+_, _*_, _<_};
 ghost use lib.ListN.{length, getD};
 ghost use lib.Dec.{ltb, eqb};
-ghost use Rattle.machine.specs.Sizes.{within};
-ghost use Rattle.machine.specs.Parts.{emptySlot};
-ghost use Rattle.machine.specs.Phases.{isIdle};
+ghost use Rattle.entries.specs.Sizes.{within};
+ghost use Rattle.entries.specs.Entries.{emptySlot};
+ghost use Rattle.entries.specs.Phases.{isIdle};
 ghost use Rattle.machine.specs.Calls.{firstOn};
 ghost use Rattle.machine.specs.Refusals.{usesSlot, usesLink, usesTag, unusedNotZero, withoutSlot, _when_, firstOf, refusalOf};
 

@@ -1,19 +1,20 @@
 // The soundness check, for any state.
 use crate::State;
-use crate::entries::free_good;
-use crate::entries::links_good;
-use crate::entries::slots_good;
-use crate::entries::tags_good;
-use crate::entries::threads_good;
-use crate::ranges::sizes_good;
-use crate::ranges::wide;
-use crate::tally::counts_of;
+use entries::counts_of;
+use entries::free_good;
+use entries::links_good;
+use entries::sizes_good;
+use entries::slots_good;
+use entries::tags_good;
+use entries::threads_good;
+use entries::wide;
 ghost use mathlib.Core.Path.{_≡_};
 ghost use mathlib.Core.Bool.{false};
 ghost use Prim.Native.Nat.{_+_, _≤_};
 ghost use lib.ListN.{getD};
 ghost use lib.Dec.{eqb};
-ghost use Rattle.machine.specs.Soundness.{below, bit, sound};
+ghost use Rattle.machine.specs.Soundness.{sound};
+ghost use Rattle.entries.specs.Entries.{below, bit};
 
 fn once(free: bool, count: u8) -> bool
     ensures { λ r. ⌜ r ≡ eqb (bit free + count) 1 ⌝ }

@@ -8,7 +8,7 @@ use Rattle.machine.specs.declared.Call.{Call}
 use Rattle.machine.specs.declared.Answer.{Answer}
 use Rattle.machine.specs.declared.Outcome.{Outcome}
 use Rattle.machine.specs.Answers.{numbersOf}
-use Rattle.machine.specs.Count.{howMany}
+use Rattle.entries.specs.Entries.{howMany}
 use Rattle.machine.specs.Step.{stepOf}
 
 -- one call of a run: the state it came to, the call, and its answer

@@ -5,9 +5,9 @@ use mathlib.Core.Path.{_≡_}
 use mathlib.Core.Bool.{Bool, true, false, cond, _&&_}
 use lib.Dec.{eqb}
 use Rattle.machine.specs.declared.State.{State}
-use Rattle.machine.specs.declared.Phase.{Phase}
-use Rattle.machine.specs.declared.Phase.the-variants.{Idle, Loaded, Published, Draining, Look, Swap}
-use Rattle.machine.specs.Sizes.{positions}
+use Rattle.entries.specs.declared.Phase.{Phase}
+use Rattle.entries.specs.declared.Phase.the-variants.{Idle, Loaded, Published, Draining, Look, Swap}
+use Rattle.entries.specs.Sizes.{positions}
 use Rattle.machine.specs.Parts.{linkAt, handOf, phaseOf, slotAt, positionOf}
 use Rattle.machine.specs.Answers.{numbersOf}
 use Rattle.machine.specs.Count.{placesOf}

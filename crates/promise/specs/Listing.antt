@@ -5,9 +5,9 @@ use mathlib.Core.Bool.{cond, _||_}
 use mathlib.Core.List.{List, [], _∷_, _++_, map}
 use lib.Dec.{eqb}
 use Rattle.machine.specs.declared.Call.{Call}
-use Rattle.machine.specs.declared.Phase.{Phase}
-use Rattle.machine.specs.declared.Phase.the-variants.{Idle, Loaded, Published, Draining, Look, Swap}
-use Rattle.machine.specs.Sizes.{within}
+use Rattle.entries.specs.declared.Phase.{Phase}
+use Rattle.entries.specs.declared.Phase.the-variants.{Idle, Loaded, Published, Draining, Look, Swap}
+use Rattle.entries.specs.Sizes.{within}
 use Rattle.machine.specs.Parts.{phaseOf}
 use Rattle.machine.specs.Answers.{Numbers, numbersOf}
 use Rattle.promise.specs.Store.{Whole, take, protect, swap, read, retire, clear}

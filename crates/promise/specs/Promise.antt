@@ -3,13 +3,14 @@ use Prim.Native.Nat.{ℕ, _+_, _*_, _-_, _<_, _≤_}
 use mathlib.Core.Path.{_≡_}
 use mathlib.Core.Bool.{true}
 use mathlib.Core.List.{List}
-use Rattle.machine.specs.declared.Sizes.{Sizes}
+use Rattle.entries.specs.declared.Sizes.{Sizes}
 use Rattle.machine.specs.declared.Call.{Call}
 use Rattle.machine.specs.declared.Answer.the-variants.{Refused, Freed}
-use Rattle.machine.specs.Sizes.{inRange, positions}
+use Rattle.entries.specs.Sizes.{inRange, positions}
 use Rattle.machine.specs.Parts.{slotAt}
 use Rattle.machine.specs.Step.{stepOf}
-use Rattle.machine.specs.Count.{howMany, placesOf}
+use Rattle.machine.specs.Count.{placesOf}
+use Rattle.entries.specs.Entries.{howMany}
 use Rattle.promise.specs.Store.{nothing, storeSays}
 use Rattle.promise.specs.History.{history, stateAfter, retires, freed}
 use Rattle.promise.specs.Reading.{noTakes}

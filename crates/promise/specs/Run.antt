@@ -1,6 +1,6 @@
 -- A run of any calls from the fresh machine, and the plain store beside it, as they are after the last of the calls.
 use mathlib.Core.List.{List}
-use Rattle.machine.specs.declared.Sizes.{Sizes}
+use Rattle.entries.specs.declared.Sizes.{Sizes}
 use Rattle.machine.specs.declared.State.{State}
 use Rattle.machine.specs.declared.Call.{Call}
 use Rattle.machine.specs.Fresh.{freshOf}

@@ -6,7 +6,7 @@ use mathlib.Core.Logic.{⊎-elim}
 use native.Mathlib.Omega.{arith}
 use lib.Dec.{ltb, eqb}
 use borrow.Author.Tests.{eqb-true, eqb-false, ltb-true, ltb-false, le-leb, lt-leb}
-use Rattle.machine.specs.Sizes.{within}
+use Rattle.entries.specs.Sizes.{within}
 use Rattle.laws.specs.Lemmas.Bools.{tested}
 
 module _ (n o : ℕ) where

@@ -4,7 +4,7 @@ use mathlib.Core.Path.{_≡_, sym, subst}
 use native.Mathlib.Nat.{mul-le-mul}
 use borrow.Author.Tests.{lt-ltb, le-ltb}
 use Rattle.machine.specs.declared.State.{State}
-use Rattle.machine.specs.Sizes.{positions}
+use Rattle.entries.specs.Sizes.{positions}
 use Rattle.machine.specs.Parts.{phaseOf, slotAt}
 use Rattle.machine.proofs.Bounds.{Limits, limits, taken-apart}
 use Rattle.laws.specs.Lemmas.Ranged.{to-sound}

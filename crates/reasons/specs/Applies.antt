@@ -3,10 +3,10 @@ use Prim.Native.Nat.{ℕ, _<_, _≤_}
 use mathlib.Core.Path.{_≡_}
 use mathlib.Core.Bool.{true, false}
 use Rattle.machine.specs.declared.State.{State}
-use Rattle.machine.specs.declared.Slot.{Slot}
-use Rattle.machine.specs.declared.Phase.{Phase}
-use Rattle.machine.specs.declared.Phase.the-variants.{Idle, Loaded, Published, Draining, Look, Swap}
-use Rattle.machine.specs.Sizes.{positions}
+use Rattle.entries.specs.declared.Slot.{Slot}
+use Rattle.entries.specs.declared.Phase.{Phase}
+use Rattle.entries.specs.declared.Phase.the-variants.{Idle, Loaded, Published, Draining, Look, Swap}
+use Rattle.entries.specs.Sizes.{positions}
 use Rattle.machine.specs.Parts.{linkAt, handOf, phaseOf, slotAt, freeAt}
 use Rattle.machine.specs.Soundness.{sound}
 use Rattle.reasons.specs.declared.Guard.{Guard}

@@ -3,9 +3,9 @@ use Prim.Native.Nat.{ℕ, _<_}
 use mathlib.Core.Path.{_≡_}
 use mathlib.Core.Bool.{true}
 use mathlib.Core.List.{List}
-use Rattle.machine.specs.declared.Sizes.{Sizes}
+use Rattle.entries.specs.declared.Sizes.{Sizes}
 use Rattle.machine.specs.declared.Call.{Call}
-use Rattle.machine.specs.Sizes.{inRange, positions}
+use Rattle.entries.specs.Sizes.{inRange, positions}
 use Rattle.machine.specs.Parts.{slotAt}
 use Rattle.promise.specs.Run.{machine}
 use Rattle.reasons.specs.Reasons.{whyOf}

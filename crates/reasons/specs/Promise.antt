@@ -4,7 +4,7 @@ use mathlib.Core.Path.{_≡_}
 use mathlib.Core.Bool.{true}
 use mathlib.Core.Logic.{_↔_}
 use Rattle.machine.specs.declared.State.{State}
-use Rattle.machine.specs.Sizes.{positions}
+use Rattle.entries.specs.Sizes.{positions}
 use Rattle.machine.specs.Parts.{freeAt}
 use Rattle.machine.specs.Soundness.{sound}
 use Rattle.laws.specs.First.{FirstIs}

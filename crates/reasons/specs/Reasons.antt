@@ -6,12 +6,12 @@ use mathlib.Core.Bool.{cond, not}
 use mathlib.Core.List.{List, [], _∷_}
 use lib.Dec.{ltb, eqb}
 use Rattle.machine.specs.declared.State.{State}
-use Rattle.machine.specs.declared.Slot.{Slot}
-use Rattle.machine.specs.declared.Phase.{Phase}
-use Rattle.machine.specs.declared.Phase.the-variants.{Idle, Loaded, Published, Draining, Look, Swap}
-use Rattle.machine.specs.Sizes.{within, positions}
+use Rattle.entries.specs.declared.Slot.{Slot}
+use Rattle.entries.specs.declared.Phase.{Phase}
+use Rattle.entries.specs.declared.Phase.the-variants.{Idle, Loaded, Published, Draining, Look, Swap}
+use Rattle.entries.specs.Sizes.{within, positions}
 use Rattle.machine.specs.Parts.{linkAt, handOf, phaseOf, slotAt, freeAt}
-use Rattle.machine.specs.Phases.{carriedBy}
+use Rattle.entries.specs.Phases.{carriedBy}
 use Rattle.machine.specs.Soundness.{sound}
 use Rattle.machine.specs.Refusals.{Row, _when_, firstOf}
 use Rattle.reasons.specs.declared.Guard.{Guard}

@@ -1,15 +1,15 @@
 // What the slots say of an object: the first that holds it as a hazard, and how the one that was left with it guards it.
 use crate::Guard;
 use crate::Hazard;
-use machine::Sizes;
-use machine::Slot;
+use entries::Sizes;
+use entries::Slot;
 ghost use mathlib.Core.Path.{_≡_};
 ghost use mathlib.Core.Bool.{cond};
 ghost use Prim.Native.Nat.{_+_, _*_, _≤_, _<_};
 ghost use lib.ListN.{getD};
 ghost use lib.Dec.{ltb, eqb};
-ghost use Rattle.machine.specs.Sizes.{positions};
-ghost use Rattle.machine.specs.Parts.{emptySlot};
+ghost use Rattle.entries.specs.Sizes.{positions};
+ghost use Rattle.entries.specs.Entries.{emptySlot};
 ghost use Rattle.reasons.specs.First.{first};
 ghost use Rattle.reasons.specs.Reasons.{guardOf};
 

@@ -1,13 +1,13 @@
 // Where an object is, place by place. Each function answers the first of its row that has the object, or how many there are if none has.
-use machine::Phase;
-use machine::Slot;
-use machine::Thread;
+use entries::Phase;
+use entries::Slot;
+use entries::Thread;
 ghost use mathlib.Core.Path.{_≡_};
 ghost use Prim.Native.Nat.{_≤_};
 ghost use lib.ListN.{getD};
 ghost use lib.Dec.{eqb};
-ghost use Rattle.machine.specs.Parts.{idleThread, emptySlot};
-ghost use Rattle.machine.specs.Phases.{carriedBy};
+ghost use Rattle.entries.specs.Entries.{idleThread, emptySlot};
+ghost use Rattle.entries.specs.Phases.{carriedBy};
 ghost use Rattle.reasons.specs.First.{first};
 ghost use Rattle.reasons.specs.Reasons.{carriedAt};
 

@@ -3,10 +3,10 @@ use Prim.Native.Nat.{ℕ}
 use mathlib.Core.Path.{_≡_}
 use mathlib.Core.Bool.{true}
 use mathlib.Core.List.{List, [], _∷_, _++_}
-use Rattle.machine.specs.declared.Sizes.{Sizes}
+use Rattle.entries.specs.declared.Sizes.{Sizes}
 use Rattle.machine.specs.declared.State.{State}
 use Rattle.machine.specs.declared.Call.{Call}
-use Rattle.machine.specs.Sizes.{inRange}
+use Rattle.entries.specs.Sizes.{inRange}
 use Rattle.machine.specs.Count.{countOf}
 use Rattle.promise.specs.Run.{machine}
 use Rattle.lines.specs.Line.{Line}

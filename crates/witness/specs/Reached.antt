@@ -2,11 +2,11 @@
 use Prim.Native.Nat.{ℕ, _*_, _+_, _-_}
 use mathlib.Core.Path.{_≡_, refl, subst⁻¹}
 use mathlib.Core.List.{List, [], _∷_, _++_}
-use Rattle.machine.specs.declared.Sizes.{Sizes}
+use Rattle.entries.specs.declared.Sizes.{Sizes}
 use Rattle.machine.specs.declared.Call.{Call}
 use Rattle.machine.specs.Fresh.{freshOf}
 use Rattle.machine.specs.Step.{doneOf}
-use Rattle.machine.specs.Count.{howMany}
+use Rattle.entries.specs.Entries.{howMany}
 use Rattle.edges.specs.Runs.{call, on}
 use Rattle.edges.specs.Laws.Computing.{computing}
 use Rattle.edges.specs.Laws.Quick.{quickly, step-is-quick, quick-computes}

@@ -1,15 +1,16 @@
 -- The definitions of the machine and of the records on `unfolding` lines: a statement that the checker computes names `computing` and not each
 -- of them.
-use Rattle.machine.specs.Sizes.{inRange, allZero}
-use Rattle.machine.specs.Phases.{isIdle, carriedBy, phaseInRange}
-use Rattle.machine.specs.Soundness.{below, bit, times, shaped, sizesGood, linkGood, threadGood, slotGood, freeGood, tagGood, places, sound}
+use Rattle.entries.specs.Sizes.{inRange, allZero}
+use Rattle.entries.specs.Phases.{isIdle, carriedBy, phaseInRange}
+use Rattle.machine.specs.Soundness.{shaped, places, sound}
+use Rattle.entries.specs.Entries.{below, bit, times, sizesGood, linkGood, threadGood, slotGood, freeGood, tagGood, howMany}
 use Rattle.machine.specs.Fresh.{marked, freshOf, blank, startOf}
 use Rattle.machine.specs.Calls.{firstOn, nextFree, takeOf, protectOf, expected, swapOf, readOf, retireOf, clearOf}
 use Rattle.machine.specs.GoOn.{publishOf, confirmOf, drainOf, lookOf, handOverOf, goOnFrom, goOnOf}
 use Rattle.machine.specs.Answers.{numbersOf, verdictNumber}
 use Rattle.machine.specs.Refusals.{firstOf, usesSlot, usesLink, usesTag, unusedNotZero, withoutSlot, protectedAt, refusals, refusalOf}
 use Rattle.machine.specs.Step.{doneOf, stepOf}
-use Rattle.machine.specs.Count.{howMany, placesOf, countOf}
+use Rattle.machine.specs.Count.{placesOf, countOf}
 use Rattle.records.specs.Marks as marks
 use Rattle.records.specs.Bytes.{lowFirst, numberOf, sizesBytes, stepBytes}
 use Rattle.records.specs.Reading.{sizesAt, stepAt, zerosAtEnd}

@@ -14,7 +14,8 @@ use Rattle.machine.specs.declared.Counted.{Counted}
 use Rattle.machine.specs.declared.Answer.the-variants as answer
 use Rattle.machine.specs.declared.Verdict.the-variants.{Good, Refused}
 use Rattle.machine.specs.Parts.{linkAt, threadAt, slotAt}
-use Rattle.machine.specs.Soundness.{below, shaped, sizesGood, linkGood, threadGood, slotGood, freeGood, tagGood, places, sound}
+use Rattle.machine.specs.Soundness.{shaped, places, sound}
+use Rattle.entries.specs.Entries.{below, sizesGood, linkGood, threadGood, slotGood, freeGood, tagGood}
 use Rattle.machine.specs.Calls.{outcome}
 use Rattle.machine.specs.Refusals.{_when_, firstOf, refusals, refusalOf}
 use Rattle.machine.specs.Step.{doneOf, stepOf}

@@ -8,9 +8,9 @@ use lib.Dec.{ltb, eqb}
 use borrow.Author.Tests.{ltb-true, leb-true, eqb-true, eqb-false, eq-eqb, ne-eqb, not-false}
 use Rattle.machine.specs.declared.State.{State}
 use Rattle.machine.specs.declared.Call.{Call}
-use Rattle.machine.specs.Sizes.{within}
+use Rattle.entries.specs.Sizes.{within}
 use Rattle.machine.specs.Parts.{handOf, phaseOf}
-use Rattle.machine.specs.Phases.{isIdle}
+use Rattle.entries.specs.Phases.{isIdle}
 use Rattle.machine.specs.Soundness.{sound}
 use Rattle.machine.specs.Calls.{nextFree, readOf}
 use Rattle.machine.specs.Refusals.{firstOf, refusals, refusalOf, usesSlot, usesLink, withoutSlot, unusedNotZero, protectedAt}

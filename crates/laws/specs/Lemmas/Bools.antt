@@ -4,7 +4,7 @@ use mathlib.Core.Path.{_≡_, refl, sym}
 use mathlib.Core.Bool.{Bool, true, false, _&&_, _||_, false≢true}
 use mathlib.Core.Logic.{_⊎_, inl, inr}
 use lib.Dec.{eqb, eqb·zero-suc}
-use Rattle.machine.specs.Soundness.{bit}
+use Rattle.entries.specs.Entries.{bit}
 
 pub and-l : (a b : Bool) → (a && b) ≡ true → a ≡ true
 and-l true b h = refl

@@ -9,7 +9,7 @@ use Rattle.machine.specs.declared.State.{State}
 use Rattle.machine.specs.declared.Call.{Call}
 use Rattle.machine.specs.declared.Outcome.{Outcome}
 use Rattle.machine.specs.declared.Answer.the-variants.{Taken, Begun, Swapped, Moved, Tag}
-use Rattle.machine.specs.declared.Phase.the-variants.{Loaded, Draining, Look}
+use Rattle.entries.specs.declared.Phase.the-variants.{Loaded, Draining, Look}
 use Rattle.machine.specs.Parts.{linkAt, handOf, phaseOf, slotAt, positionOf, tagOf, withLink, withThread}
 use Rattle.machine.specs.Calls.{nextFree, expected, holding, takeOf, protectOf, swapOf, readOf, retireOf, clearOf}
 use Rattle.machine.specs.Refusals.{refusalOf, usesSlot, usesLink}

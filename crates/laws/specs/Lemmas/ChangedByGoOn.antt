@@ -7,12 +7,12 @@ use borrow.Author.Tests.{eq-eqb, ne-eqb, lt-ltb, le-ltb}
 use Rattle.machine.specs.declared.State.{State}
 use Rattle.machine.specs.declared.Call.{Call}
 use Rattle.machine.specs.declared.Outcome.{Outcome}
-use Rattle.machine.specs.declared.Slot.{Slot}
+use Rattle.entries.specs.declared.Slot.{Slot}
 use Rattle.machine.specs.declared.Answer.{Answer}
 use Rattle.machine.specs.declared.Answer.the-variants.{Working, Protected, Nothing, Finished, Left, Freed}
-use Rattle.machine.specs.declared.Phase.{Phase}
-use Rattle.machine.specs.declared.Phase.the-variants.{Idle, Loaded, Published, Draining, Look, Swap}
-use Rattle.machine.specs.Sizes.{positions}
+use Rattle.entries.specs.declared.Phase.{Phase}
+use Rattle.entries.specs.declared.Phase.the-variants.{Idle, Loaded, Published, Draining, Look, Swap}
+use Rattle.entries.specs.Sizes.{positions}
 use Rattle.machine.specs.Parts.{linkAt, handOf, phaseOf, slotAt, positionOf, tagOf, withThread, withSlot, withObject}
 use Rattle.machine.specs.Calls.{holding}
 use Rattle.machine.specs.GoOn.{become, leaving, publishOf, confirmOf, drainOf, lookOf, handOverOf, goOnFrom, goOnOf}

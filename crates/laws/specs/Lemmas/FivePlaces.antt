@@ -8,15 +8,16 @@ use lib.ListN.{getD, List·getD-eq-default}
 use lib.Dec.{ltb}
 use borrow.Author.Tests.{ltb-true, ltb-false, eqb-true, le-ltb, not-true}
 use Rattle.machine.specs.declared.State.{State}
-use Rattle.machine.specs.declared.Sizes.{Sizes}
-use Rattle.machine.specs.declared.Thread.{Thread}
-use Rattle.machine.specs.declared.Slot.{Slot}
-use Rattle.machine.specs.declared.Phase.{Phase}
-use Rattle.machine.specs.declared.Phase.the-variants.{Idle, Loaded, Published, Draining, Look, Swap}
-use Rattle.machine.specs.Sizes.{positions}
-use Rattle.machine.specs.Parts.{idleThread, emptySlot, freeAt}
-use Rattle.machine.specs.Phases.{carriedBy, phaseInRange}
-use Rattle.machine.specs.Soundness.{bit, times, linkGood, threadGood, slotGood, freeGood, places}
+use Rattle.entries.specs.declared.Sizes.{Sizes}
+use Rattle.entries.specs.declared.Thread.{Thread}
+use Rattle.entries.specs.declared.Slot.{Slot}
+use Rattle.entries.specs.declared.Phase.{Phase}
+use Rattle.entries.specs.declared.Phase.the-variants.{Idle, Loaded, Published, Draining, Look, Swap}
+use Rattle.entries.specs.Sizes.{positions}
+use Rattle.machine.specs.Parts.{freeAt}
+use Rattle.entries.specs.Entries.{idleThread, emptySlot, bit, times, linkGood, threadGood, slotGood, freeGood}
+use Rattle.entries.specs.Phases.{carriedBy, phaseInRange}
+use Rattle.machine.specs.Soundness.{places}
 use Rattle.machine.specs.Count.{placesOf}
 use Rattle.laws.specs.Lemmas.Bools.{ands, tested}
 use Rattle.laws.specs.Lemmas.Ranged.{Sound}

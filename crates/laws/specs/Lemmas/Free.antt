@@ -9,11 +9,12 @@ use lib.ListN.{length, getD}
 use lib.Dec.{ltb, eqb}
 use borrow.Author.Tests.{ltb-true, eq-eqb}
 use Rattle.machine.specs.declared.State.{State}
-use Rattle.machine.specs.declared.Phase.{Phase}
-use Rattle.machine.specs.declared.Phase.the-variants.{Idle, Loaded, Published, Draining, Look, Swap}
-use Rattle.machine.specs.Parts.{freeAt, phaseOf, idleThread}
-use Rattle.machine.specs.Phases.{isIdle, carriedBy}
-use Rattle.machine.specs.Soundness.{bit, places, freeGood}
+use Rattle.entries.specs.declared.Phase.{Phase}
+use Rattle.entries.specs.declared.Phase.the-variants.{Idle, Loaded, Published, Draining, Look, Swap}
+use Rattle.machine.specs.Parts.{freeAt, phaseOf}
+use Rattle.entries.specs.Entries.{idleThread, bit, freeGood}
+use Rattle.entries.specs.Phases.{isIdle, carriedBy}
+use Rattle.machine.specs.Soundness.{places}
 use Rattle.machine.specs.Calls.{firstOn, nextFree}
 use Rattle.laws.specs.Lemmas.Bools.{tested}
 use Rattle.laws.specs.Lemmas.Times.{times-at}

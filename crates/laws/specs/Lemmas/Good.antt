@@ -6,14 +6,14 @@ use mathlib.Core.Path.{_≡_, refl}
 use mathlib.Core.Bool.{Bool, true, false, not, _||_, false≢true}
 use lib.Dec.{eqb}
 use borrow.Author.Tests.{lt-ltb, le-leb, ltb-true, leb-true, eq-eqb, ne-eqb}
-use Rattle.machine.specs.declared.Sizes.{Sizes}
-use Rattle.machine.specs.declared.Slot.{Slot}
-use Rattle.machine.specs.declared.Thread.{Thread}
-use Rattle.machine.specs.declared.Phase.{Phase}
-use Rattle.machine.specs.declared.Phase.the-variants.{Idle, Loaded, Published, Draining, Look, Swap}
-use Rattle.machine.specs.Sizes.{positions}
-use Rattle.machine.specs.Phases.{phaseInRange}
-use Rattle.machine.specs.Soundness.{sizesGood, linkGood, threadGood, slotGood, freeGood, tagGood}
+use Rattle.entries.specs.declared.Sizes.{Sizes}
+use Rattle.entries.specs.declared.Slot.{Slot}
+use Rattle.entries.specs.declared.Thread.{Thread}
+use Rattle.entries.specs.declared.Phase.{Phase}
+use Rattle.entries.specs.declared.Phase.the-variants.{Idle, Loaded, Published, Draining, Look, Swap}
+use Rattle.entries.specs.Sizes.{positions}
+use Rattle.entries.specs.Phases.{phaseInRange}
+use Rattle.entries.specs.Entries.{sizesGood, linkGood, threadGood, slotGood, freeGood, tagGood}
 use Rattle.machine.proofs.Bounds.{limits}
 use Rattle.laws.specs.Lemmas.Bools.{and-i, ands}
 

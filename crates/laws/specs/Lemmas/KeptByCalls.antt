@@ -6,12 +6,12 @@ use mathlib.Core.Bool.{Bool, true, false, false≢true}
 use mathlib.Core.Logic.{⊎-elim}
 use lib.Dec.{eqb}
 use Rattle.machine.specs.declared.State.{State}
-use Rattle.machine.specs.declared.Phase.{Phase}
-use Rattle.machine.specs.declared.Phase.the-variants.{Loaded, Draining, Look}
-use Rattle.machine.specs.Sizes.{positions}
+use Rattle.entries.specs.declared.Phase.{Phase}
+use Rattle.entries.specs.declared.Phase.the-variants.{Loaded, Draining, Look}
+use Rattle.entries.specs.Sizes.{positions}
 use Rattle.machine.specs.Parts.{linkAt, handOf, phaseOf, slotAt, positionOf, withThread, withSlot, withLink, threadAt}
-use Rattle.machine.specs.Phases.{isIdle, carriedBy, phaseInRange}
-use Rattle.machine.specs.Soundness.{bit}
+use Rattle.entries.specs.Phases.{isIdle, carriedBy, phaseInRange}
+use Rattle.entries.specs.Entries.{bit}
 use Rattle.machine.specs.Calls.{nextFree, takeOf, protectOf, swapOf, retireOf, clearOf, expected, holding}
 use Rattle.laws.specs.Lemmas.Bools.{bit-zero, tested}
 use Rattle.laws.specs.Lemmas.Ranged.{Sound}

@@ -7,12 +7,12 @@ use mathlib.Core.Logic.{⊎-elim}
 use lib.Dec.{eqb, ltb}
 use borrow.Author.Tests.{ltb-true, eqb-true, eqb-false}
 use Rattle.machine.specs.declared.State.{State}
-use Rattle.machine.specs.declared.Phase.{Phase}
-use Rattle.machine.specs.declared.Phase.the-variants.{Idle, Loaded, Published, Draining, Look, Swap}
-use Rattle.machine.specs.Sizes.{positions}
+use Rattle.entries.specs.declared.Phase.{Phase}
+use Rattle.entries.specs.declared.Phase.the-variants.{Idle, Loaded, Published, Draining, Look, Swap}
+use Rattle.entries.specs.Sizes.{positions}
 use Rattle.machine.specs.Parts.{linkAt, handOf, phaseOf, slotAt, positionOf, withSlot, withObject}
-use Rattle.machine.specs.Phases.{carriedBy, phaseInRange}
-use Rattle.machine.specs.Soundness.{bit}
+use Rattle.entries.specs.Phases.{carriedBy, phaseInRange}
+use Rattle.entries.specs.Entries.{bit}
 use Rattle.machine.specs.GoOn.{become, leaving, publishOf, confirmOf, drainOf, lookOf, handOverOf, goOnFrom, goOnOf}
 use Rattle.laws.specs.Lemmas.Bools.{bit-zero, tested}
 use Rattle.laws.specs.Lemmas.Ranged.{Sound}

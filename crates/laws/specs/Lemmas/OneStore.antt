@@ -8,9 +8,10 @@ use lib.Seq.{getD-set-same, getD-set-other}
 use Rattle.machine.specs.declared.State.{State}
 use Rattle.machine.specs.declared.Call.{Call}
 use Rattle.machine.specs.declared.Outcome.{Outcome}
-use Rattle.machine.specs.declared.Slot.{Slot}
-use Rattle.machine.specs.declared.Phase.{Phase}
-use Rattle.machine.specs.Parts.{threadAt, withLink, withThread, withSlot, withObject, idleThread, emptySlot}
+use Rattle.entries.specs.declared.Slot.{Slot}
+use Rattle.entries.specs.declared.Phase.{Phase}
+use Rattle.machine.specs.Parts.{threadAt, withLink, withThread, withSlot, withObject}
+use Rattle.entries.specs.Entries.{idleThread, emptySlot}
 use Rattle.machine.specs.Refusals.{refusalOf}
 use Rattle.machine.specs.Step.{doneOf, stepOf}
 use Rattle.laws.specs.Change.{NewThread, NewLink, NewSlot, NewObject}

@@ -6,10 +6,11 @@ use lib.ListN.{length, getD}
 use lib.Dec.{eqb}
 use borrow.Author.Tests.{eqb-true, eq-eqb}
 use Rattle.machine.specs.declared.State.{State}
-use Rattle.machine.specs.Parts.{linkAt, threadAt, slotAt, idleThread, emptySlot}
-use Rattle.machine.specs.Soundness.{shaped, sizesGood, linkGood, threadGood, slotGood, freeGood, tagGood, places, sound}
+use Rattle.machine.specs.Parts.{linkAt, threadAt, slotAt}
+use Rattle.entries.specs.Entries.{idleThread, emptySlot, sizesGood, linkGood, threadGood, slotGood, freeGood, tagGood}
+use Rattle.machine.specs.Soundness.{shaped, places, sound}
 use Rattle.laws.specs.Lemmas.Bools.{ands, and-i}
-use Rattle.machine.proofs.Below.{below-at, below-all}
+use Rattle.entries.proofs.Below.{below-at, below-all}
 use Rattle.laws.specs.Lemmas.Each.{Each}
 
 -- how many entries each array has

@@ -10,15 +10,16 @@ use lib.Seq.{getD-append-add, ext-getD}
 use lib.Dec.{ltb, eqb, leb·zero, leb·suc-zero}
 use borrow.Author.Tests.{ltb-false, eqb-true}
 use Rattle.machine.specs.declared.State.{State}
-use Rattle.machine.specs.declared.Sizes.{Sizes}
-use Rattle.machine.specs.declared.Thread.{Thread}
-use Rattle.machine.specs.declared.Slot.{Slot}
-use Rattle.machine.specs.declared.Phase.{Phase}
-use Rattle.machine.specs.declared.Phase.the-variants.{Idle, Loaded, Published, Draining, Look, Swap}
-use Rattle.machine.specs.Sizes.{inRange, allZero, positions}
-use Rattle.machine.specs.Parts.{idleThread, emptySlot, freeAt}
-use Rattle.machine.specs.Phases.{isIdle, carriedBy, phaseInRange}
-use Rattle.machine.specs.Soundness.{below, bit, times, shaped, sizesGood, linkGood, threadGood, slotGood, freeGood, tagGood, places, sound}
+use Rattle.entries.specs.declared.Sizes.{Sizes}
+use Rattle.entries.specs.declared.Thread.{Thread}
+use Rattle.entries.specs.declared.Slot.{Slot}
+use Rattle.entries.specs.declared.Phase.{Phase}
+use Rattle.entries.specs.declared.Phase.the-variants.{Idle, Loaded, Published, Draining, Look, Swap}
+use Rattle.entries.specs.Sizes.{inRange, allZero, positions}
+use Rattle.machine.specs.Parts.{freeAt}
+use Rattle.entries.specs.Entries.{idleThread, emptySlot, below, bit, times, sizesGood, linkGood, threadGood, slotGood, freeGood, tagGood}
+use Rattle.entries.specs.Phases.{isIdle, carriedBy, phaseInRange}
+use Rattle.machine.specs.Soundness.{shaped, places, sound}
 use Rattle.machine.specs.Fresh.{marked, freshOf, blank}
 use Rattle.laws.specs.Lemmas.Bools.{ands, or-cases, tested, bit-zero}
 use Rattle.laws.specs.Lemmas.Ranged.{Ranged, Sound, from-sound}

@@ -11,11 +11,12 @@ use lib.Seq.{getD-set-same, getD-set-other}
 use lib.Dec.{eqb, eqb·suc-suc}
 use borrow.Author.Tests.{eqb-true, eqb-false}
 use Rattle.machine.specs.declared.State.{State}
-use Rattle.machine.specs.declared.Slot.{Slot}
-use Rattle.machine.specs.declared.Phase.{Phase}
-use Rattle.machine.specs.Parts.{linkAt, slotAt, handOf, phaseOf, freeAt, withLink, withThread, withSlot, withObject, idleThread, emptySlot}
-use Rattle.machine.specs.Phases.{carriedBy}
-use Rattle.machine.specs.Soundness.{bit, linkGood, threadGood, slotGood, freeGood, tagGood, places}
+use Rattle.entries.specs.declared.Slot.{Slot}
+use Rattle.entries.specs.declared.Phase.{Phase}
+use Rattle.machine.specs.Parts.{linkAt, slotAt, handOf, phaseOf, freeAt, withLink, withThread, withSlot, withObject}
+use Rattle.entries.specs.Entries.{idleThread, emptySlot, bit, linkGood, threadGood, slotGood, freeGood, tagGood}
+use Rattle.entries.specs.Phases.{carriedBy}
+use Rattle.machine.specs.Soundness.{places}
 use Rattle.laws.specs.Lemmas.Bools.{tested}
 use Rattle.laws.specs.Lemmas.Each.{each-set}
 use Rattle.laws.specs.Lemmas.Times.{times-set}

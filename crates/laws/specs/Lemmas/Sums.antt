@@ -6,8 +6,7 @@ use mathlib.Core.Bool.{Bool, false, not}
 use mathlib.Core.List.{List, [], _∷_}
 use lib.ListN.{length, getD}
 use lib.Dec.{eqb, eqb·suc-zero, eqb·suc-suc}
-use Rattle.machine.specs.Soundness.{bit, times}
-use Rattle.machine.specs.Count.{howMany, some}
+use Rattle.entries.specs.Entries.{bit, times, howMany, some}
 use Rattle.laws.specs.Lemmas.Bools.{bit-zero}
 
 -- f 0 + f 1 + .. + f (n - 1)

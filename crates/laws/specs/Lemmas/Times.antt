@@ -5,7 +5,7 @@ use mathlib.Core.Path.{_≡_}
 use mathlib.Core.List.{List, [], _∷_}
 use lib.ListN.{length, getD, set}
 use lib.Dec.{eqb}
-use Rattle.machine.specs.Soundness.{bit, times}
+use Rattle.entries.specs.Entries.{bit, times}
 
 module _ {A : Type 0} (f : A → ℕ) (o : ℕ) where
   pub times-set : (xs : List A) (i : ℕ) (v d : A) → i < length xs

@@ -4,14 +4,14 @@ use native.Mathlib.Omega.{arith}
 use mathlib.Core.Path.{_≡_, refl, sym, ap, _∙_}
 use mathlib.Core.Bool.{true, false≢true}
 use lib.ListN.{getD, replicate, getD-replicate}
-use Rattle.machine.specs.declared.Slot.{Slot}
-use Rattle.machine.specs.declared.Thread.{Thread}
-use Rattle.machine.specs.declared.Sizes.{Sizes}
-use Rattle.machine.specs.Sizes.{inRange, positions}
-use Rattle.machine.specs.Parts.{slotAt, idleThread, emptySlot}
-use Rattle.machine.specs.Phases.{carriedBy}
-use Rattle.machine.specs.Soundness.{bit}
-use Rattle.machine.specs.Count.{howMany, placesOf}
+use Rattle.entries.specs.declared.Slot.{Slot}
+use Rattle.entries.specs.declared.Thread.{Thread}
+use Rattle.entries.specs.declared.Sizes.{Sizes}
+use Rattle.entries.specs.Sizes.{inRange, positions}
+use Rattle.machine.specs.Parts.{slotAt}
+use Rattle.entries.specs.Entries.{idleThread, emptySlot, bit, howMany}
+use Rattle.entries.specs.Phases.{carriedBy}
+use Rattle.machine.specs.Count.{placesOf}
 use Rattle.machine.specs.Fresh.{freshOf}
 use Rattle.laws.specs.Lemmas.Good.{bounds}
 use Rattle.laws.specs.Lemmas.Ranged.{Sound, to-sound}

@@ -10,11 +10,11 @@ use Rattle.machine.specs.declared.Call.{Call}
 use Rattle.machine.specs.declared.Outcome.{Outcome}
 use Rattle.machine.specs.declared.Answer.{Answer}
 use Rattle.machine.specs.declared.Answer.the-variants.{Freed}
-use Rattle.machine.specs.declared.Phase.{Phase}
-use Rattle.machine.specs.declared.Phase.the-variants.{Idle, Loaded, Published, Draining, Look, Swap}
-use Rattle.machine.specs.Sizes.{positions}
+use Rattle.entries.specs.declared.Phase.{Phase}
+use Rattle.entries.specs.declared.Phase.the-variants.{Idle, Loaded, Published, Draining, Look, Swap}
+use Rattle.entries.specs.Sizes.{positions}
 use Rattle.machine.specs.Parts.{linkAt, slotAt, phaseOf, positionOf, withObject}
-use Rattle.machine.specs.Phases.{carriedBy}
+use Rattle.entries.specs.Phases.{carriedBy}
 use Rattle.machine.specs.Answers.{numbersOf}
 use Rattle.machine.specs.Calls.{expected, takeOf, protectOf, swapOf, readOf, retireOf, clearOf}
 use Rattle.machine.specs.GoOn.{become, publishOf, confirmOf, drainOf, lookOf, handOverOf, goOnFrom, goOnOf}

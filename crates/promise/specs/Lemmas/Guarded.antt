@@ -4,13 +4,13 @@ use native.Mathlib.Omega.{arith}
 use mathlib.Core.Path.{_≡_, sym, ap, _∙_, subst}
 use mathlib.Core.Bool.{Bool, true, false}
 use Rattle.machine.specs.declared.State.{State}
-use Rattle.machine.specs.declared.Slot.{Slot}
-use Rattle.machine.specs.declared.Thread.{Thread}
-use Rattle.machine.specs.declared.Phase.{Phase}
-use Rattle.machine.specs.declared.Phase.the-variants.{Idle, Loaded, Published, Draining, Look, Swap}
-use Rattle.machine.specs.Sizes.{positions}
+use Rattle.entries.specs.declared.Slot.{Slot}
+use Rattle.entries.specs.declared.Thread.{Thread}
+use Rattle.entries.specs.declared.Phase.{Phase}
+use Rattle.entries.specs.declared.Phase.the-variants.{Idle, Loaded, Published, Draining, Look, Swap}
+use Rattle.entries.specs.Sizes.{positions}
 use Rattle.machine.specs.Parts.{slotAt, handOf, phaseOf, freeAt, withLink, withThread, withSlot, withObject}
-use Rattle.machine.specs.Phases.{carriedBy}
+use Rattle.entries.specs.Phases.{carriedBy}
 use Rattle.machine.specs.Calls.{holding}
 use Rattle.machine.specs.GoOn.{become, leaving}
 use Rattle.laws.specs.Lemmas.Ranged.{Ranged}

@@ -7,11 +7,11 @@ use mathlib.Core.List.{[], _∷_, map}
 use Rattle.machine.specs.declared.State.{State}
 use Rattle.machine.specs.declared.Call.{Call}
 use Rattle.machine.specs.declared.Outcome.{Outcome}
-use Rattle.machine.specs.declared.Phase.{Phase}
-use Rattle.machine.specs.Sizes.{positions}
+use Rattle.entries.specs.declared.Phase.{Phase}
+use Rattle.entries.specs.Sizes.{positions}
 use Rattle.machine.specs.Parts.{linkAt, slotAt, handOf, withThread}
-use Rattle.machine.specs.Phases.{phaseInRange}
-use Rattle.machine.specs.Soundness.{bit}
+use Rattle.entries.specs.Phases.{phaseInRange}
+use Rattle.entries.specs.Entries.{bit}
 use Rattle.machine.specs.Answers.{Numbers, numbersOf}
 use Rattle.laws.specs.Lemmas.Ranged.{Sound, Ranged}
 use Rattle.laws.specs.Lemmas.Good.{bounds, thread-good}

@@ -4,13 +4,12 @@ use native.Mathlib.Omega.{arith}
 use mathlib.Core.Path.{_≡_, refl}
 use mathlib.Core.Bool.{Bool, true}
 use Rattle.machine.specs.declared.State.{State}
-use Rattle.machine.specs.declared.Phase.{Phase}
-use Rattle.machine.specs.Sizes.{positions}
+use Rattle.entries.specs.declared.Phase.{Phase}
+use Rattle.entries.specs.Sizes.{positions}
 use Rattle.machine.specs.Parts.{slotAt, handOf, phaseOf, positionOf, withThread, withSlot}
-use Rattle.machine.specs.Phases.{carriedBy}
-use Rattle.machine.specs.Soundness.{bit}
+use Rattle.entries.specs.Phases.{carriedBy}
+use Rattle.entries.specs.Entries.{bit, some}
 use Rattle.machine.specs.GoOn.{become, leaving}
-use Rattle.machine.specs.Count.{some}
 use Rattle.machine.specs.Calls.{holding}
 use Rattle.laws.specs.Lemmas.Ranged.{Sound, Ranged}
 use Rattle.laws.specs.Lemmas.Good.{bounds}

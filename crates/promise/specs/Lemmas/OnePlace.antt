@@ -8,11 +8,12 @@ use lib.ListN.{length, getD}
 use lib.Dec.{eqb}
 use borrow.Author.Tests.{eq-eqb}
 use Rattle.machine.specs.declared.State.{State}
-use Rattle.machine.specs.declared.Slot.{Slot}
-use Rattle.machine.specs.declared.Thread.{Thread}
-use Rattle.machine.specs.Parts.{linkAt, slotAt, handOf, phaseOf, freeAt, idleThread, emptySlot}
-use Rattle.machine.specs.Phases.{carriedBy}
-use Rattle.machine.specs.Soundness.{bit, times, places}
+use Rattle.entries.specs.declared.Slot.{Slot}
+use Rattle.entries.specs.declared.Thread.{Thread}
+use Rattle.machine.specs.Parts.{linkAt, slotAt, handOf, phaseOf, freeAt}
+use Rattle.entries.specs.Entries.{idleThread, emptySlot, bit, times}
+use Rattle.entries.specs.Phases.{carriedBy}
+use Rattle.machine.specs.Soundness.{places}
 use Rattle.laws.specs.Lemmas.Times.{times-at}
 use Rattle.laws.specs.Lemmas.Ranged.{Sound}
 

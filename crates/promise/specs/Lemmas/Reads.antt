@@ -8,10 +8,11 @@ use lib.Seq.{getD-set-same, getD-set-other}
 use lib.Dec.{eqb}
 use borrow.Author.Tests.{eqb-true, eqb-false}
 use Rattle.machine.specs.declared.State.{State}
-use Rattle.machine.specs.declared.Slot.{Slot}
-use Rattle.machine.specs.declared.Thread.{Thread}
-use Rattle.machine.specs.declared.Phase.{Phase}
-use Rattle.machine.specs.Parts.{linkAt, threadAt, slotAt, handOf, phaseOf, freeAt, tagOf, withLink, withThread, withSlot, withObject, idleThread, emptySlot}
+use Rattle.entries.specs.declared.Slot.{Slot}
+use Rattle.entries.specs.declared.Thread.{Thread}
+use Rattle.entries.specs.declared.Phase.{Phase}
+use Rattle.machine.specs.Parts.{linkAt, threadAt, slotAt, handOf, phaseOf, freeAt, tagOf, withLink, withThread, withSlot, withObject}
+use Rattle.entries.specs.Entries.{idleThread, emptySlot}
 use Rattle.machine.specs.Calls.{holding}
 use Rattle.machine.specs.GoOn.{leaving}
 use Rattle.laws.specs.Lemmas.Bools.{tested}

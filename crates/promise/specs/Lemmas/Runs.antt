@@ -4,10 +4,10 @@ use native.Mathlib.Omega.{arith}
 use mathlib.Core.Path.{_≡_, refl, sym, ap, ap₂, _∙_, subst}
 use mathlib.Core.List.{List, [], _∷_, _++_}
 use Rattle.machine.specs.declared.State.{State}
-use Rattle.machine.specs.declared.Sizes.{Sizes}
+use Rattle.entries.specs.declared.Sizes.{Sizes}
 use Rattle.machine.specs.declared.Call.{Call}
 use Rattle.machine.specs.Answers.{Numbers}
-use Rattle.machine.specs.Count.{howMany}
+use Rattle.entries.specs.Entries.{howMany}
 use Rattle.machine.specs.Step.{stepOf}
 use Rattle.promise.specs.Store.{Store, Whole, says, next, storeSays, storeAfter}
 use Rattle.promise.specs.History.{historyBy, stateBy, eventOf, history, stateAfter, retires, freed}

@@ -8,9 +8,9 @@ use lib.ListN.{length}
 use lib.Dec.{eqb}
 use borrow.Author.Tests.{eq-eqb, ne-eqb}
 use Rattle.machine.specs.declared.State.{State}
-use Rattle.machine.specs.declared.Slot.{Slot}
-use Rattle.machine.specs.declared.Thread.{Thread}
-use Rattle.machine.specs.declared.Phase.{Phase}
+use Rattle.entries.specs.declared.Slot.{Slot}
+use Rattle.entries.specs.declared.Thread.{Thread}
+use Rattle.entries.specs.declared.Phase.{Phase}
 use Rattle.machine.specs.Parts.{linkAt, slotAt, handOf, freeAt, tagOf, withLink, withThread, withSlot, withObject}
 use Rattle.machine.specs.Calls.{holding}
 use Rattle.machine.specs.GoOn.{leaving}

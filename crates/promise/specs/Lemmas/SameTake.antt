@@ -7,9 +7,9 @@ use mathlib.Core.List.{List, [], _∷_, _++_}
 use lib.ListN.{length, getD, length-append, List·getD-append}
 use lib.Seq.{getD-append-seam}
 use Rattle.machine.specs.declared.State.{State}
-use Rattle.machine.specs.declared.Thread.{Thread}
-use Rattle.machine.specs.declared.Phase.{Phase}
-use Rattle.machine.specs.Sizes.{positions}
+use Rattle.entries.specs.declared.Thread.{Thread}
+use Rattle.entries.specs.declared.Phase.{Phase}
+use Rattle.entries.specs.Sizes.{positions}
 use Rattle.machine.specs.Parts.{linkAt, slotAt, handOf, freeAt, tagOf, withThread, withObject}
 use Rattle.laws.specs.Lemmas.Ranged.{Shape}
 use Rattle.promise.specs.Store.{Store, put}

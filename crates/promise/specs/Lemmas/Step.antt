@@ -10,7 +10,8 @@ use borrow.Author.Tests.{eqb-true, eqb-false, ne-eqb, lt-leb, leb-true}
 use Rattle.machine.specs.declared.State.{State}
 use Rattle.machine.specs.declared.Call.{Call}
 use Rattle.machine.specs.declared.Answer.the-variants.{Refused}
-use Rattle.machine.specs.Soundness.{bit, sound}
+use Rattle.machine.specs.Soundness.{sound}
+use Rattle.entries.specs.Entries.{bit}
 use Rattle.machine.specs.Answers.{numbersOf}
 use Rattle.machine.specs.Calls.{outcome, takeOf, protectOf, swapOf, readOf, retireOf, clearOf}
 use Rattle.machine.specs.GoOn.{goOnOf}

@@ -8,12 +8,12 @@ use lib.Dec.{eqb}
 use borrow.Author.Tests.{eq-eqb, ne-eqb}
 use Rattle.machine.specs.declared.State.{State}
 use Rattle.machine.specs.declared.Call.{Call}
-use Rattle.machine.specs.declared.Phase.the-variants.{Loaded, Draining, Look}
+use Rattle.entries.specs.declared.Phase.the-variants.{Loaded, Draining, Look}
 use Rattle.machine.specs.Parts.{linkAt, slotAt, handOf, phaseOf, positionOf, withThread}
-use Rattle.machine.specs.Phases.{carriedBy}
-use Rattle.machine.specs.Soundness.{bit}
+use Rattle.entries.specs.Phases.{carriedBy}
+use Rattle.entries.specs.Entries.{bit, some}
 use Rattle.machine.specs.Answers.{numbersOf, numbers}
-use Rattle.machine.specs.Count.{placesOf, some}
+use Rattle.machine.specs.Count.{placesOf}
 use Rattle.machine.specs.Calls.{nextFree, expected, takeOf, protectOf, swapOf, readOf, retireOf, clearOf}
 use Rattle.machine.specs.Refusals.{usesSlot, usesLink, protectedAt}
 use Rattle.laws.specs.Lemmas.Bools.{tested}

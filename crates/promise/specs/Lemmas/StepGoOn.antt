@@ -8,14 +8,14 @@ use lib.Dec.{eqb, ltb}
 use borrow.Author.Tests.{eqb-true, eqb-false, ne-eqb, ltb-false}
 use Rattle.machine.specs.declared.State.{State}
 use Rattle.machine.specs.declared.Call.{Call}
-use Rattle.machine.specs.declared.Phase.{Phase}
-use Rattle.machine.specs.declared.Phase.the-variants.{Idle, Loaded, Published, Draining, Look, Swap}
-use Rattle.machine.specs.Sizes.{positions}
+use Rattle.entries.specs.declared.Phase.{Phase}
+use Rattle.entries.specs.declared.Phase.the-variants.{Idle, Loaded, Published, Draining, Look, Swap}
+use Rattle.entries.specs.Sizes.{positions}
 use Rattle.machine.specs.Parts.{linkAt, slotAt, handOf, phaseOf, positionOf, withSlot, withObject}
-use Rattle.machine.specs.Phases.{isIdle, carriedBy}
-use Rattle.machine.specs.Soundness.{bit}
+use Rattle.entries.specs.Phases.{isIdle, carriedBy}
+use Rattle.entries.specs.Entries.{bit, some}
 use Rattle.machine.specs.Answers.{numbersOf, numbers}
-use Rattle.machine.specs.Count.{placesOf, some}
+use Rattle.machine.specs.Count.{placesOf}
 use Rattle.machine.specs.GoOn.{become, leaving, publishOf, confirmOf, drainOf, lookOf, handOverOf, goOnFrom, goOnOf}
 use Rattle.laws.specs.Lemmas.Bools.{tested}
 use Rattle.laws.specs.Lemmas.Ranged.{Ranged}

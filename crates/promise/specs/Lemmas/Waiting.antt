@@ -9,14 +9,14 @@ use lib.ListN.{length, getD, set, List·getD-eq-default}
 use lib.Dec.{ltb}
 use borrow.Author.Tests.{eqb-true, eq-eqb, ltb-true, ltb-false, le-ltb}
 use Rattle.machine.specs.declared.State.{State}
-use Rattle.machine.specs.declared.Slot.{Slot}
-use Rattle.machine.specs.declared.Thread.{Thread}
-use Rattle.machine.specs.declared.Phase.{Phase}
-use Rattle.machine.specs.Sizes.{positions}
-use Rattle.machine.specs.Parts.{slotAt, phaseOf, withThread, withSlot, idleThread, emptySlot}
-use Rattle.machine.specs.Phases.{carriedBy}
-use Rattle.machine.specs.Soundness.{bit, slotGood, threadGood}
-use Rattle.machine.specs.Count.{howMany, some, placesOf}
+use Rattle.entries.specs.declared.Slot.{Slot}
+use Rattle.entries.specs.declared.Thread.{Thread}
+use Rattle.entries.specs.declared.Phase.{Phase}
+use Rattle.entries.specs.Sizes.{positions}
+use Rattle.machine.specs.Parts.{slotAt, phaseOf, withThread, withSlot}
+use Rattle.entries.specs.Entries.{idleThread, emptySlot, bit, slotGood, threadGood, howMany, some}
+use Rattle.entries.specs.Phases.{carriedBy}
+use Rattle.machine.specs.Count.{placesOf}
 use Rattle.laws.specs.Lemmas.Bools.{ands, tested}
 use Rattle.laws.specs.Lemmas.Ranged.{Shape, Ranged}
 use Rattle.laws.specs.Lemmas.Free.{idle-carries}

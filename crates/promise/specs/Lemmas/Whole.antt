@@ -4,14 +4,15 @@ use native.Mathlib.Omega.{arith}
 use mathlib.Core.Path.{_≡_, sym, ap, _∙_, subst}
 use mathlib.Core.Bool.{true}
 use mathlib.Core.List.{List}
-use Rattle.machine.specs.declared.Sizes.{Sizes}
+use Rattle.entries.specs.declared.Sizes.{Sizes}
 use Rattle.machine.specs.declared.Call.{Call}
 use Rattle.machine.specs.declared.Answer.the-variants.{Refused, Freed}
-use Rattle.machine.specs.Sizes.{inRange, positions}
+use Rattle.entries.specs.Sizes.{inRange, positions}
 use Rattle.machine.specs.Parts.{slotAt}
 use Rattle.machine.specs.Fresh.{freshOf}
 use Rattle.machine.specs.Step.{stepOf}
-use Rattle.machine.specs.Count.{howMany, placesOf}
+use Rattle.machine.specs.Count.{placesOf}
+use Rattle.entries.specs.Entries.{howMany}
 use Rattle.laws.specs.Lemmas.Ranged.{from-sound}
 use Rattle.laws.specs.Lemmas.FivePlaces.{five-sum}
 use Rattle.laws.specs.Lemmas.Refused.{is-refused}

@@ -7,7 +7,7 @@ use mathlib.Core.Logic.{⊎-elim, _↔_}
 use lib.Dec.{ltb, eqb}
 use borrow.Author.Tests.{lt-ltb, le-ltb, ltb-true, ltb-false, eq-eqb, ne-eqb, eqb-true, eqb-false}
 use Rattle.machine.specs.declared.State.{State}
-use Rattle.machine.specs.Sizes.{positions}
+use Rattle.entries.specs.Sizes.{positions}
 use Rattle.machine.specs.Parts.{slotAt}
 use Rattle.laws.specs.Lemmas.Bools.{tested}
 use Rattle.reasons.specs.declared.Hazard.{Hazard}

@@ -7,12 +7,13 @@ use mathlib.Core.Logic.{⊎-elim}
 use lib.Dec.{ltb}
 use borrow.Author.Tests.{lt-ltb, le-ltb, ltb-true, ltb-false}
 use Rattle.machine.specs.declared.State.{State}
-use Rattle.machine.specs.declared.Slot.{Slot}
-use Rattle.machine.specs.declared.Thread.{Thread}
-use Rattle.machine.specs.Sizes.{positions}
-use Rattle.machine.specs.Parts.{linkAt, handOf, phaseOf, slotAt, idleThread, emptySlot}
-use Rattle.machine.specs.Phases.{carriedBy}
-use Rattle.machine.specs.Soundness.{bit, times, places}
+use Rattle.entries.specs.declared.Slot.{Slot}
+use Rattle.entries.specs.declared.Thread.{Thread}
+use Rattle.entries.specs.Sizes.{positions}
+use Rattle.machine.specs.Parts.{linkAt, handOf, phaseOf, slotAt}
+use Rattle.entries.specs.Entries.{idleThread, emptySlot, bit, times}
+use Rattle.entries.specs.Phases.{carriedBy}
+use Rattle.machine.specs.Soundness.{places}
 use Rattle.laws.specs.Lemmas.Bools.{tested}
 use Rattle.laws.specs.Lemmas.Ranged.{Sound, to-sound}
 use Rattle.laws.specs.Lemmas.Good.{bounds}

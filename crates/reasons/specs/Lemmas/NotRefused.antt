@@ -6,7 +6,7 @@ use mathlib.Core.Bool.{Bool, true, false, cond, not}
 use borrow.Author.Tests.{leb-true, le-leb, not-false}
 use Rattle.machine.specs.declared.State.{State}
 use Rattle.machine.specs.Parts.{freeAt}
-use Rattle.machine.specs.Sizes.{within}
+use Rattle.entries.specs.Sizes.{within}
 use Rattle.machine.specs.Soundness.{sound}
 use Rattle.machine.specs.Refusals.{firstOf}
 use Rattle.laws.specs.Lemmas.Bools.{ands}

@@ -6,16 +6,17 @@ use mathlib.Core.Logic.{⊎-elim}
 use lib.Dec.{ltb}
 use mathlib.Core.Bool.{true, false, false≢true}
 use borrow.Author.Tests.{le-ltb, eqb-true, ltb-true, ltb-false}
-use Rattle.machine.specs.declared.Sizes.{Sizes}
+use Rattle.entries.specs.declared.Sizes.{Sizes}
 use Rattle.machine.specs.declared.State.{State}
-use Rattle.machine.specs.declared.Slot.{Slot}
-use Rattle.machine.specs.declared.Thread.{Thread}
-use Rattle.machine.specs.declared.Phase.{Phase}
-use Rattle.machine.specs.declared.Phase.the-variants.{Idle, Loaded, Published, Draining, Look, Swap}
-use Rattle.machine.specs.Sizes.{positions}
-use Rattle.machine.specs.Parts.{linkAt, threadAt, slotAt, freeAt, idleThread, emptySlot}
-use Rattle.machine.specs.Phases.{isIdle, carriedBy}
-use Rattle.machine.specs.Soundness.{bit, times, places, linkGood, threadGood, slotGood}
+use Rattle.entries.specs.declared.Slot.{Slot}
+use Rattle.entries.specs.declared.Thread.{Thread}
+use Rattle.entries.specs.declared.Phase.{Phase}
+use Rattle.entries.specs.declared.Phase.the-variants.{Idle, Loaded, Published, Draining, Look, Swap}
+use Rattle.entries.specs.Sizes.{positions}
+use Rattle.machine.specs.Parts.{linkAt, threadAt, slotAt, freeAt}
+use Rattle.entries.specs.Entries.{idleThread, emptySlot, bit, times, linkGood, threadGood, slotGood}
+use Rattle.entries.specs.Phases.{isIdle, carriedBy}
+use Rattle.machine.specs.Soundness.{places}
 use Rattle.laws.specs.Lemmas.Bools.{ands, tested}
 use Rattle.laws.specs.Lemmas.Ranged.{Sound}
 use Rattle.promise.specs.Lemmas.OnePlace.{one-place}

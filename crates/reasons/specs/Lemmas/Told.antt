@@ -8,8 +8,9 @@ use lib.Dec.{eqb}
 use borrow.Author.Tests.{eqb-false, ne-eqb}
 use Rattle.machine.specs.declared.State.{State}
 use Rattle.machine.specs.Parts.{slotAt, freeAt}
-use Rattle.machine.specs.Sizes.{positions}
-use Rattle.machine.specs.Soundness.{sound, bit, places}
+use Rattle.entries.specs.Sizes.{positions}
+use Rattle.machine.specs.Soundness.{sound, places}
+use Rattle.entries.specs.Entries.{bit}
 use Rattle.laws.specs.First.{FirstIs, here, later}
 use Rattle.laws.specs.Lemmas.Bools.{tested}
 use Rattle.laws.specs.Lemmas.Ranged.{Sound, to-sound}

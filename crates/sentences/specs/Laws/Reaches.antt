@@ -6,10 +6,10 @@ use mathlib.Core.Logic.{⊎-elim}
 use mathlib.Core.List.{List, [], _∷_}
 use Rattle.laws.specs.Lemmas.Bools.{tested}
 use lib.Dec.{ltb}
-use Rattle.machine.specs.declared.Sizes.{Sizes}
+use Rattle.entries.specs.declared.Sizes.{Sizes}
 use Rattle.machine.specs.declared.State.{State}
 use Rattle.machine.specs.declared.Call.{Call}
-use Rattle.machine.specs.Sizes.{inRange}
+use Rattle.entries.specs.Sizes.{inRange}
 use Rattle.machine.specs.Fresh.{freshOf, startOf}
 use Rattle.machine.specs.Step.{stepOf}
 use Rattle.records.specs.declared.SizesRecord.{SizesRecord}

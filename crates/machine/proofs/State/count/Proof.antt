@@ -1,7 +1,7 @@
 -- `count` meets its contract: on a sound state each place's own count, and on another the refusal.
 use borrow.Author.Needs.{needs}
 use Rattle.machine.specs.Count.{placesOf, countOf}
-use Rattle.machine.proofs.Flags.{refused, passed}
+use Rattle.entries.proofs.Flags.{refused, passed}
 use Rattle.machine.proofs.State.count.Statement.{statement}
 use Rattle.machine.proofs.State.count.Tie as tie
 

@@ -6,7 +6,7 @@ use mathlib.Core.Bool.{true}
 use lib.ListN.{length-map}
 use borrow.Author.Needs.{needs}
 use Rattle.machine.specs.Soundness.{shaped, sound}
-use Rattle.machine.proofs.Flags.{refused, passed, and-so, and-not, and-then}
+use Rattle.entries.proofs.Flags.{refused, passed, and-so, and-not, and-then}
 use Rattle.machine.proofs.SizeLaws.{objects-good}
 use Rattle.machine.proofs.Sounding.{shaped-so, toSizes, toLinks, toThreads, toSlots, toFree, toTags, countsFrom, once-each}
 use Rattle.machine.proofs.State.is_sound.Statement.{statement}

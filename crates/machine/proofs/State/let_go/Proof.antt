@@ -2,7 +2,7 @@
 use native.Mathlib.Nat.{le-refl}
 use borrow.Author.Tests.{le-ltb}
 use borrow.Author.Needs.{needs}
-use Rattle.machine.specs.Sizes.{positions}
+use Rattle.entries.specs.Sizes.{positions}
 use Rattle.machine.specs.GoOn.{lookOf}
 use Rattle.machine.proofs.State.let_go.Statement.{statement}
 use Rattle.machine.proofs.State.let_go.Tie as tie

@@ -5,7 +5,7 @@ use native.Mathlib.Numerals.{add-one}
 use native.Mathlib.Nat.{le-refl}
 use borrow.Author.Tests.{lt-ltb, le-ltb, eq-eqb, ne-eqb}
 use borrow.Author.Needs.{needs}
-use Rattle.machine.specs.Sizes.{positions}
+use Rattle.entries.specs.Sizes.{positions}
 use Rattle.machine.specs.GoOn.{lookOf}
 use Rattle.machine.proofs.State.look.Statement.{statement}
 use Rattle.machine.proofs.State.look.Tie as tie

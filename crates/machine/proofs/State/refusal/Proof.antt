@@ -6,7 +6,7 @@ use borrow.Author.Needs.{needs}
 use Rattle.machine.specs.Soundness.{sound}
 use Rattle.machine.specs.Calls.{nextFree}
 use Rattle.machine.specs.Refusals.{firstOf, protectedAt, refusalOf}
-use Rattle.machine.proofs.Flags.{refused, passed}
+use Rattle.entries.proofs.Flags.{refused, passed}
 use Rattle.machine.proofs.Bounds.{thread-limited, position-limited}
 use Rattle.machine.proofs.Table.{NoneApplies, fieldRows, objectRows, settled, fields-pass, unsound, by-fields, by-threads, after-threads}
 use Rattle.machine.proofs.Accepted.{thread-below, slot-below, names-slot}

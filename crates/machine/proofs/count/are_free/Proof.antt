@@ -4,8 +4,8 @@ use mathlib.Core.Path.{_≡_, refl}
 use mathlib.Core.Bool.{Bool, false}
 use native.Mathlib.Omega.{arith}
 use lib.ListN.{take}
-use Rattle.machine.specs.Count.{howMany}
-use Rattle.machine.proofs.HowMany.{count-next, count-more, count-all}
+use Rattle.entries.specs.Entries.{howMany}
+use Rattle.entries.proofs.HowMany.{count-next, count-more, count-all}
 use borrow.Author.Needs.{needs}
 use Rattle.machine.proofs.count.are_free.Statement.{statement}
 use Rattle.machine.proofs.count.are_free.Tie as tie

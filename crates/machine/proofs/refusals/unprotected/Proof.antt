@@ -1,6 +1,6 @@
 -- `unprotected` is the test of line 31; only a call that reads a slot looks at its mark.
 use borrow.Author.Needs.{needs}
-use Rattle.machine.proofs.Flags.{refused, passed}
+use Rattle.entries.proofs.Flags.{refused, passed}
 use Rattle.machine.proofs.refusals.unprotected.Statement.{statement}
 use Rattle.machine.proofs.refusals.unprotected.Tie as tie
 

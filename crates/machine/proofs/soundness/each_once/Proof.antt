@@ -5,8 +5,8 @@ use mathlib.Core.Bool.{false}
 use native.Mathlib.Omega.{arith}
 use lib.ListN.{getD}
 use lib.Dec.{eqb}
-use Rattle.machine.specs.Soundness.{below, bit}
-use Rattle.machine.proofs.Below.{below-next}
+use Rattle.entries.specs.Entries.{below, bit}
+use Rattle.entries.proofs.Below.{below-next}
 use borrow.Author.Needs.{needs}
 use Rattle.machine.proofs.soundness.each_once.Statement.{statement}
 use Rattle.machine.proofs.soundness.each_once.Tie as tie

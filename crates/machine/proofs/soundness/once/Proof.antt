@@ -3,7 +3,7 @@ use mathlib.Core.Path.{sym}
 use native.Mathlib.Nat.{zero-add}
 use native.Mathlib.Numerals.{one-add}
 use lib.Dec.{eqb·suc-suc}
-use Rattle.machine.specs.Soundness.{bit}
+use Rattle.entries.specs.Entries.{bit}
 use Rattle.machine.proofs.soundness.once.Statement.{statement}
 use Rattle.machine.proofs.soundness.once.Tie as tie
 

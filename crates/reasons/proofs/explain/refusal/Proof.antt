@@ -2,7 +2,7 @@
 use native.Mathlib.Omega.{arith}
 use borrow.Author.Needs.{needs}
 use Rattle.machine.specs.Refusals.{firstOf}
-use Rattle.machine.proofs.Flags.{refused, passed}
+use Rattle.entries.proofs.Flags.{refused, passed}
 use Rattle.machine.proofs.Bounds.{limits, taken-apart}
 use Rattle.reasons.specs.Reasons.{refusals, refusalOf}
 use Rattle.reasons.proofs.Outside.{outside, inside}

@@ -7,7 +7,7 @@ use lib.ListN.{getD}
 use lib.Dec.{eqb}
 use borrow.Author.Tests.{eq-eqb, ne-eqb}
 use borrow.Author.Needs.{needs}
-use Rattle.machine.specs.Parts.{emptySlot}
+use Rattle.entries.specs.Entries.{emptySlot}
 use Rattle.laws.specs.Lemmas.Good.{position-less}
 use Rattle.reasons.specs.declared.Hazard.the-variants.{Nowhere}
 use Rattle.reasons.specs.Lemmas.First.{none-more}

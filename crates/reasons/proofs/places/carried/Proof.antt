@@ -1,6 +1,6 @@
 -- `carried` meets its contract: each arm knows its case.
 use borrow.Author.Needs.{needs}
-use Rattle.machine.specs.Phases.{carriedBy}
+use Rattle.entries.specs.Phases.{carriedBy}
 use borrow.Author.Needs.{needs}
 use Rattle.reasons.proofs.places.carried.Statement.{statement}
 use Rattle.reasons.proofs.places.carried.Tie as tie

@@ -7,7 +7,7 @@ use lib.ListN.{getD}
 use lib.Dec.{eqb}
 use borrow.Author.Tests.{eq-eqb, ne-eqb}
 use borrow.Author.Needs.{needs}
-use Rattle.machine.specs.Parts.{idleThread}
+use Rattle.entries.specs.Entries.{idleThread}
 use Rattle.reasons.specs.Lemmas.First.{first-is, first-none, none-more}
 use Rattle.reasons.proofs.places.hand_with.Statement.{statement}
 use Rattle.reasons.proofs.places.hand_with.Tie as tie

@@ -1,0 +1,5 @@
+-- Document 01's sizes, phases and entries as definitions.
+pub mod Sizes
+pub mod Phases
+pub mod Entries
+pub mod Tally
