@@ -14,6 +14,7 @@ pub use places::bit;
 pub use places::in_handovers;
 pub use places::in_hands;
 pub use places::in_links;
+pub use ranges::carried;
 pub use ranges::in_range;
 pub use ranges::is_idle;
 pub use ranges::sizes_good;

@@ -2,6 +2,7 @@
 use entries::Phase;
 use entries::Slot;
 use entries::Thread;
+use entries::carried;
 ghost use mathlib.Core.Path.{_≡_};
 ghost use Prim.Native.Nat.{_≤_};
 ghost use lib.ListN.{getD};
@@ -40,30 +41,6 @@ pub(crate) fn hand_with(count: u8, threads: [Thread; 8], object: u8) -> u8
         t += 1;
     }
     count
-}
-
-// The object that a thread carries, or 0.
-fn carried(phase: Phase) -> u8
-    ensures { λ r. ⌜ r ≡ carriedBy phase ⌝ }
-{
-    match phase {
-        Phase::Idle => 0,
-        Phase::Loaded {
-            slot: _,
-            link: _,
-            object: _,
-        } => 0,
-        Phase::Published { slot: _, link: _ } => 0,
-        Phase::Draining { slot: _ } => 0,
-        Phase::Look {
-            object,
-            position: _,
-        } => object,
-        Phase::Swap {
-            object,
-            position: _,
-        } => object,
-    }
 }
 
 // The position at which a thread that carries an object is.
