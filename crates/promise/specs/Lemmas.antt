@@ -8,6 +8,8 @@ pub mod Waiting
 pub mod Invariant
 pub mod Moves
 pub mod StepCalls
+pub mod StepProtecting
+pub mod StepScanning
 pub mod StepGoOn
 pub mod Step
 pub mod Runs

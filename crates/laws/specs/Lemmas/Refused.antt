@@ -14,7 +14,7 @@ use Rattle.machine.specs.Refusals.{Row, refusals, refusalOf}
 use Rattle.machine.specs.Step.{stepOf, doneOf}
 use Rattle.laws.specs.First.{NoneApplies, none, pass, FirstIs, here, later}
 use Rattle.laws.specs.Lemmas.Bools.{tested}
-use Rattle.laws.specs.Lemmas.Rows.{first-is, none-is, first-or-none}
+use Rattle.laws.specs.Lemmas.Rows.{first-is, none-is, first-some}
 use Rattle.laws.specs.Lemmas.Accepted.{Accepted, accepted}
 use Rattle.laws.specs.Lemmas.NotRefused.{isRefusal, refusal-is, not-refused}
 
@@ -52,7 +52,7 @@ module _ (s : State) (c : Call) where
 
   first-of : (refusalOf s c ≡ 0 → ⊥) → FirstIs (refusals s c) (refusalOf s c)
   unfolding refusalOf
-  first-of some = ⊎-elim (λ first. first) (λ all. absurd (some (none-is all))) (first-or-none (refusals s c))
+  first-of = first-some (refusals s c)
 
   number-some : (k : ℕ) → FirstIs (refusals s c) k → k ≡ 0 → ⊥
   unfolding refusalOf

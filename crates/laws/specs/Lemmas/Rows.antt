@@ -35,6 +35,10 @@ first-or-none (row ∷ rows) = ⊎-elim found (onward (first-or-none rows)) (tes
         (λ all. inr (pass no′ all))
         rest
 
+-- where the table does not give 0, it gives the first line that applies
+pub first-some : (rows : List Row) → (firstOf rows ≡ 0 → ⊥) → FirstIs rows (firstOf rows)
+first-some rows some = ⊎-elim (λ first. first) (λ all. absurd (some (none-is all))) (first-or-none rows)
+
 -- a numbered line does not apply where the table gives 0, and neither does any line after it
 pub peel : (b : Bool) (n rest : ℕ) → cond b (suc n) rest ≡ 0 → (b ≡ false) × (rest ≡ 0)
 peel true n rest h = absurd (omega arith)

@@ -15,7 +15,7 @@ use Rattle.laws.specs.First.{FirstIs, here, later}
 use Rattle.laws.specs.Lemmas.Bools.{tested}
 use Rattle.laws.specs.Lemmas.Ranged.{Sound, to-sound}
 use Rattle.laws.specs.Lemmas.Good.{Bounds, bounds}
-use Rattle.laws.specs.Lemmas.Rows.{first-is, none-is, first-or-none}
+use Rattle.laws.specs.Lemmas.Rows.{first-is, first-some}
 use Rattle.promise.specs.Lemmas.OnePlace.{one-place, link-not-free, hand-not-free, carried-not-free, handover-in}
 use Rattle.reasons.specs.declared.Reason.{Reason}
 use Rattle.reasons.specs.declared.Reason.the-variants.{Link, Hand, Carried, Handover}
@@ -82,7 +82,7 @@ module _ (s : State) (o : ℕ) where
 
   first-of : (refusalOf s o ≡ 0 → ⊥) → FirstIs (refusals s o) (refusalOf s o)
   unfolding refusalOf
-  first-of some = ⊎-elim (λ first. first) (λ all. absurd (some (none-is all))) (first-or-none (refusals s o))
+  first-of = first-some (refusals s o)
 
   -- no line has the number 0
   number-some : (k : ℕ) → FirstIs (refusals s o) k → k ≡ 0 → ⊥
