@@ -117,8 +117,14 @@ fn change_object(seed: usize, mut s: State) -> State {
     let i = index(seed, 1, plain::wide(z.objects), 240);
     if i < 240 {
         if dice::pick(seed, 2, 3) == 0 {
-            let was = s.free[i];
-            s.free[i] = !was;
+            let object = plain::byte(i + 1);
+            let pool = s.pool;
+            let other = if pool.is_free(object) {
+                pool.take_out(object)
+            } else {
+                pool.put_back(object)
+            };
+            s.pool = other;
         } else {
             s.tags[i] = plain::word(dice::mix(seed, 3));
         }
@@ -132,9 +138,12 @@ fn move_free(seed: usize, mut s: State) -> State {
     let i = dice::pick(seed, 1, plain::wide(z.objects));
     let l = dice::pick(seed, 2, plain::wide(z.links));
     if i < 240 && l < 16 {
-        if s.free[i] && s.links[l] == 0 {
-            s.free[i] = false;
-            s.links[l] = plain::byte(i + 1);
+        let object = plain::byte(i + 1);
+        let pool = s.pool;
+        if pool.is_free(object) && s.links[l] == 0 {
+            let taken = pool.take_out(object);
+            s.pool = taken;
+            s.links[l] = object;
         }
     }
     s

@@ -4,6 +4,7 @@ use machine::Answer;
 use machine::Call;
 use machine::State;
 use machine::Verdict;
+use pool::Pool;
 use twin::Order;
 use twin::Raw;
 use twin::Said;
@@ -85,10 +86,20 @@ fn task_of(phase: Phase) -> Task {
     }
 }
 
+fn free_of(pool: Pool) -> [bool; 240] {
+    let mut free = [false; 240];
+    let mut k = 0;
+    while k < 240 {
+        free[k] = pool.is_free(byte(k + 1));
+        k += 1;
+    }
+    free
+}
+
 pub fn raw(s: State) -> Raw {
     let z = s.sizes;
     let links = s.links;
-    let free = s.free;
+    let free = free_of(s.pool);
     let tags = s.tags;
     let mut r = twin::empty();
     r.threads = wide(z.threads);

@@ -8,10 +8,10 @@ use Rattle.machine.specs.declared.Counted.{Counted}
 use Rattle.machine.specs.Fresh.{startOf}
 use Rattle.machine.specs.Step.{doneOf, stepOf}
 use Rattle.machine.specs.Count.{countOf}
-use Rattle.edges.specs.Laws.Computing.{computing}
+use Rattle.edges.specs.Lemmas.Computing.{computing}
 use Rattle.edges.specs.Runs.{sizes, call, on, one, four, six, zeros, Machine, printed, linesFrom}
-use Rattle.edges.specs.Laws.Quick.{quickly, quickCount, step-is-quick, count-is-quick, quick-computes}
-use Rattle.edges.specs.Pictures.{phaseNumbers, threadNumbers, slotNumbers, picture, startPicture}
+use Rattle.edges.specs.Lemmas.Quick.{quickly, quickCount, step-is-quick, count-is-quick, quick-computes}
+use Rattle.edges.specs.Pictures.{phaseNumbers, threadNumbers, slotNumbers, freeNumbers, picture, startPicture}
 use Rattle.edges.specs.Bytes.{largestTag, readPicture, writtenPicture}
 
 -- a row: the edge's number in document 01, what the definitions give, and what document 01 says
@@ -256,7 +256,7 @@ abbrev pub Agree : List Edge → Type 0
 Agree rows = map (λ row. row .computed) rows ≡ map (λ row. row .expected) rows
 
 agree-quickly : Agree (edgesOf (quickly doneOf) quickCount)
-unfolding edgesOf computing quick-computes printed linesFrom phaseNumbers threadNumbers slotNumbers picture startPicture readPicture writtenPicture
+unfolding edgesOf computing quick-computes printed linesFrom phaseNumbers threadNumbers slotNumbers freeNumbers picture startPicture readPicture writtenPicture
 agree-quickly = refl
 
 -- The twelve are all there.

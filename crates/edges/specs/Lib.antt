@@ -7,4 +7,4 @@ pub mod RuledOut
 pub mod Rules
 pub mod TrapRules
 pub mod Traps
-pub mod Laws
+pub mod Lemmas

@@ -1,13 +1,14 @@
 -- A state as numbers, every entry of it, so that two states are told apart and a whole one is written down.
-use Prim.Native.Nat.{ℕ}
-use mathlib.Core.List.{List, [], _∷_, _++_, map}
+use Prim.Native.Nat.{ℕ, zero, suc}
+use mathlib.Core.List.{List, [], _∷_, _++_}
 use Rattle.machine.specs.declared.State.{State}
 use Rattle.entries.specs.declared.Thread.{Thread}
 use Rattle.entries.specs.declared.Slot.{Slot}
 use Rattle.entries.specs.declared.Phase.{Phase}
 use Rattle.entries.specs.declared.Phase.the-variants.{Idle, Loaded, Published, Draining, Look, Swap}
 use Rattle.machine.specs.declared.Started.{Started}
-use Rattle.entries.specs.Entries.{bit}
+use Rattle.basics.specs.Counts.{bit}
+use Rattle.machine.specs.Parts.{freeAt}
 use Rattle.machine.specs.Answers.{verdictNumber}
 use Rattle.edges.specs.Runs.{sizesLine}
 
@@ -30,14 +31,19 @@ unfoldable pub slotNumbers : List Slot → List ℕ
 slotNumbers [] = []
 slotNumbers (slot ∷ slots) = slot .hazard ∷ bit (slot .mark) ∷ slot .handover ∷ slotNumbers slots
 
--- six lines: sizes, links, threads, slots, free marks, tags
+-- 1 for a free object, 0 for another, for n objects from o on
+unfoldable pub freeNumbers : State → ℕ → ℕ → List ℕ
+freeNumbers s o zero = []
+freeNumbers s o (suc n) = bit (freeAt s o) ∷ freeNumbers s (suc o) n
+
+-- six lines: sizes, links, threads, slots, which objects are free, tags
 unfoldable pub picture : State → List (List ℕ)
 picture s =
     sizesLine (s .sizes) ∷
     s .links ∷
     threadNumbers (s .threads) ∷
     slotNumbers (s .slots) ∷
-    map bit (s .free) ∷
+    freeNumbers s 1 240 ∷
     s .tags ∷
     []
 

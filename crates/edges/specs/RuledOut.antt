@@ -13,14 +13,14 @@ use Rattle.machine.specs.declared.Answer.the-variants.{Refused, Begun, Working}
 use Rattle.machine.specs.declared.Outcome.{Outcome}
 use Rattle.machine.specs.Parts.{handOf, phaseOf, freeAt}
 use Rattle.entries.specs.Phases.{isIdle}
-use Rattle.entries.specs.Entries.{bit}
+use Rattle.basics.specs.Counts.{bit}
 use Rattle.machine.specs.Calls.{outcome, retireOf}
 use Rattle.machine.specs.GoOn.{goOnOf}
 use Rattle.machine.specs.Answers.{numbersOf}
 use Rattle.machine.specs.Refusals.{refusalOf}
 use Rattle.machine.specs.Step.{stepOf}
 use Rattle.machine.specs.Count.{countOf}
-use Rattle.edges.specs.Laws.Computing.{computing}
+use Rattle.edges.specs.Lemmas.Computing.{computing}
 use Rattle.edges.specs.Runs.{four, six, sizes, call, on, Machine, started, after, printed, linesFrom}
 
 -- "a machine that refuses all", by whatever numbers

@@ -7,18 +7,23 @@ use Rattle.entries.specs.declared.Phase.the-variants.{Idle, Draining, Look, Swa
 use Rattle.machine.specs.declared.Outcome.{Outcome}
 use Rattle.machine.specs.declared.Answer.the-variants.{Begun, Working, Protected, Nothing, Finished, Left, Freed}
 use Rattle.entries.specs.Sizes.{positions}
-use Rattle.machine.specs.Parts.{slotAt, positionOf, tagOf, withSlot, withObject}
-use Rattle.entries.specs.Entries.{below}
-use Rattle.machine.specs.Calls.{outcome, holding, clearOf}
-use Rattle.machine.specs.GoOn.{become, leaving, publishOf, confirmOf, drainOf, lookOf, handOverOf}
+use Rattle.machine.specs.Parts.{slotAt, phaseOf, positionOf, tagOf, withSlot, withPool, become}
+use Rattle.basics.specs.Under.{allUnder}
+use Rattle.entries.specs.Entries.{withHazard, withHandover}
+use Rattle.entries.specs.Phases.{returnsTo}
+use Rattle.pool.specs.Pool.{putBack}
+use Rattle.machine.specs.Calls.{outcome, clearOf}
+use Rattle.machine.specs.GoOn.{publishOf, confirmOf, drainOf, lookOf, handOverOf}
 use Rattle.edges.specs.Rules.{Rules}
 
 -- "Moving on after a swap": the displaced object is looked for one position on.
 unfoldable pub handOverAndMoveOn : State → ℕ → ℕ → ℕ → Outcome
 handOverAndMoveOn s t object p =
     let old = (slotAt s p) .handover in
-    let left = withSlot s p (leaving (slotAt s p) object) in
-    cond (eqb old 0) (outcome (become left t Idle) (Left object p)) (outcome (become left t (Look old (suc p))) Working)
+    let left = withSlot s p (withHandover (slotAt s p) object) in
+    cond (eqb old 0)
+    (outcome (become left t (returnsTo (phaseOf s t))) (Left object p))
+    (outcome (become left t (Look old (suc p))) Working)
 
 abbrev pub movesOn : Rules
 movesOn =
@@ -36,7 +41,7 @@ unfoldable pub publishAndMark : State → ℕ → ℕ → ℕ → ℕ → Outcom
 publishAndMark s t slot link object =
     let p = positionOf s t slot in
     outcome
-    (become (withSlot s p (holding (slotAt s p) object (not (eqb object 0)))) t Idle)
+    (become (withSlot s p (withHazard (slotAt s p) object (not (eqb object 0)))) t Idle)
     (cond (eqb object 0) Nothing (Protected object (tagOf s object)))
 
 abbrev pub marksAtOnce : Rules
@@ -63,7 +68,7 @@ drainAtClear s t slot =
 unfoldable pub zeroAfterDrain : State → ℕ → ℕ → Outcome
 zeroAfterDrain s t slot =
     let p = positionOf s t slot in
-    outcome (become (withSlot s p (holding (slotAt s p) 0 false)) t Idle) Finished
+    outcome (become (withSlot s p (withHazard (slotAt s p) 0 false)) t Idle) Finished
 
 abbrev pub drainsFirst : Rules
 drainsFirst =
@@ -80,7 +85,7 @@ drainsFirst =
 unfoldable pub lookBy : (State → ℕ → ℕ → ℕ → Bool) → (State → ℕ → ℕ → ℕ → Bool) → State → ℕ → ℕ → ℕ → Outcome
 lookBy matches ends s t object p =
     cond (ends s t object p)
-    (outcome (withObject (become s t Idle) object true 0) (Freed object))
+    (outcome (become (withPool s (putBack (s .pool) object) object 0) t (returnsTo (phaseOf s t))) (Freed object))
     (cond (matches s t object p)
     (outcome (become s t (Swap object p)) Working)
     (outcome (become s t (Look object (suc p))) Working))
@@ -94,7 +99,7 @@ atEnd s t object p = not (ltb p (positions (s .sizes)))
 
 -- no position after this one holds the object
 unfoldable pub lastMet : State → ℕ → ℕ → ℕ → Bool
-lastMet s t object p = met s t object p && below (positions (s .sizes)) (λ q. leb q p || not (met s t object q))
+lastMet s t object p = met s t object p && allUnder (positions (s .sizes)) (λ q. leb q p || not (met s t object q))
 
 -- "Freeing at the last match of a scan"
 abbrev pub freesAtLast : Rules

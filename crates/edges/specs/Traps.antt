@@ -10,10 +10,11 @@ use Rattle.machine.specs.declared.State.{State}
 use Rattle.machine.specs.declared.Call.{Call}
 use Rattle.machine.specs.Parts.{freeAt}
 use Rattle.machine.specs.Step.{doneOf, stepOf}
-use Rattle.entries.specs.Entries.{howMany, some}
-use Rattle.edges.specs.Laws.Computing.{computing}
+use Rattle.basics.specs.Counts.{howMany}
+use Rattle.entries.specs.Entries.{isObject}
+use Rattle.edges.specs.Lemmas.Computing.{computing}
 use Rattle.edges.specs.Runs.{six, sizes, call, on, Machine, started, stepLine}
-use Rattle.edges.specs.Laws.Quick.{quickly, slow-is-quick, step-is-quick, quick-computes}
+use Rattle.edges.specs.Lemmas.Quick.{quickly, slow-is-quick, step-is-quick, quick-computes}
 use Rattle.edges.specs.Rules.{Rules, base, goOnBy, doneBy, machineOf}
 use Rattle.edges.specs.TrapRules.{handOverAndMoveOn, movesOn, publishAndMark, marksAtOnce, drainAtClear, zeroAfterDrain, drainsFirst, lookBy, lastMet, freesAtLast, skipsOwn}
 
@@ -23,7 +24,7 @@ freeYetProtected s = howMany (λ slot. slot .mark && freeAt s (slot .hazard)) (s
 
 -- how many slots without a hazard hold a handover: where the slot's thread is idle, nobody is about to take it up
 unfoldable pub leftBehind : State → ℕ
-leftBehind s = howMany (λ slot. eqb (slot .hazard) 0 && some (slot .handover)) (s .slots)
+leftBehind s = howMany (λ slot. eqb (slot .hazard) 0 && isObject (slot .handover)) (s .slots)
 
 -- a row: the rules, the sizes and the calls, and what is expected: the line of the last call, how many are free yet protected, how many are
 -- left behind

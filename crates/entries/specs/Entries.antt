@@ -1,37 +1,37 @@
--- An entry of a state by itself: what is asked of each, by its number and the sizes, and how entries are counted.
+-- An entry of a state by itself: what is asked of each, by its number and the sizes.
 -- "all numbers above are in range for them; entries beyond the sizes are 0, idle or unmarked; a protected mark stands only on a hazard that is
 -- not 0"
-use Prim.Native.Nat.{ℕ, zero, suc, _+_}
-use mathlib.Core.Bool.{Bool, true, false, cond, not, _&&_, _||_}
-use mathlib.Core.List.{List, [], _∷_}
+use Prim.Native.Nat.{ℕ}
+use mathlib.Core.Bool.{Bool, false, cond, not, _&&_, _||_}
 use lib.Dec.{leb, ltb, eqb}
 use Rattle.entries.specs.declared.Sizes.{Sizes}
 use Rattle.entries.specs.declared.Thread.{Thread}
 use Rattle.entries.specs.declared.Slot.{Slot}
+use Rattle.entries.specs.declared.Phase.{Phase}
 use Rattle.entries.specs.declared.Phase.the-variants.{Idle}
 use Rattle.entries.specs.Sizes.{inRange, allZero, positions}
 use Rattle.entries.specs.Phases.{isIdle, phaseInRange}
 
+-- "0 means no object"
+abbrev pub isObject : ℕ → Bool
+isObject object = not (eqb object 0)
+
+abbrev pub thread : ℕ → Phase → Thread
+thread hand phase = record { hand = hand; phase = phase }
+
 abbrev pub idleThread : Thread
-idleThread = record { hand = 0; phase = Idle }
+idleThread = thread 0 Idle
 
 abbrev pub emptySlot : Slot
 emptySlot = record { hazard = 0; mark = false; handover = 0 }
 
--- the test holds of each number under n
-unfoldable pub below : ℕ → (ℕ → Bool) → Bool
-below zero test = true
-below (suc n) test = below n test && test n
+-- a slot with another hazard and mark, its handover kept
+abbrev pub withHazard : Slot → ℕ → Bool → Slot
+withHazard slot hazard mark = record { hazard = hazard; mark = mark; handover = slot .handover }
 
--- 1 for yes, 0 for no
-unfoldable pub bit : Bool → ℕ
-bit true = 1
-bit false = 0
-
--- how many elements, each read by f, are o
-unfoldable pub times : {A : Type 0} → (A → ℕ) → ℕ → List A → ℕ
-times f o [] = 0
-times f o (x ∷ xs) = bit (eqb (f x) o) + times f o xs
+-- a slot with another handover, its hazard and mark kept
+abbrev pub withHandover : Slot → ℕ → Slot
+withHandover slot object = record { hazard = slot .hazard; mark = slot .mark; handover = object }
 
 -- Where the sizes are all 0, every entry is beyond them, so what is asked below makes the state the blank one.
 unfoldable pub sizesGood : Sizes → Bool
@@ -42,33 +42,26 @@ sizesGood z = inRange z || allZero z
 unfoldable pub linkGood : Sizes → ℕ → ℕ → Bool
 linkGood z i object = cond (ltb i (z .links)) (leb object (z .objects)) (eqb object 0)
 
-unfoldable pub threadGood : Sizes → ℕ → Thread → Bool
-threadGood z t thread =
-    cond (ltb t (z .threads))
-    (leb (thread .hand) (z .objects) && phaseInRange z (thread .phase))
-    (eqb (thread .hand) 0 && isIdle (thread .phase))
+unfoldable pub threadInRange : Sizes → Thread → Bool
+threadInRange z thread = leb (thread .hand) (z .objects) && phaseInRange z (thread .phase)
 
--- "a protected mark stands only on a hazard that is not 0"
+unfoldable pub threadEmpty : Thread → Bool
+threadEmpty thread = eqb (thread .hand) 0 && isIdle (thread .phase)
+
+unfoldable pub threadGood : Sizes → ℕ → Thread → Bool
+threadGood z t thread = cond (ltb t (z .threads)) (threadInRange z thread) (threadEmpty thread)
+
+-- "a protected mark stands only on a hazard that is not 0"; n is how many objects there are
+unfoldable pub slotInRange : ℕ → Slot → Bool
+slotInRange n slot =
+    leb (slot .hazard) n && leb (slot .handover) n && (not (slot .mark) || not (eqb (slot .hazard) 0))
+
+unfoldable pub slotEmpty : Slot → Bool
+slotEmpty slot = eqb (slot .hazard) 0 && not (slot .mark) && eqb (slot .handover) 0
+
 unfoldable pub slotGood : Sizes → ℕ → Slot → Bool
-slotGood z p slot =
-    cond (ltb p (positions z))
-    (leb (slot .hazard) (z .objects) &&
-    leb (slot .handover) (z .objects) &&
-    (not (slot .mark) || not (eqb (slot .hazard) 0)))
-    (eqb (slot .hazard) 0 && not (slot .mark) && eqb (slot .handover) 0)
+slotGood z p slot = cond (ltb p (positions z)) (slotInRange (z .objects) slot) (slotEmpty slot)
 
 -- k is the object's number less 1; a free object may have any tag
-unfoldable pub freeGood : Sizes → ℕ → Bool → Bool
-freeGood z k free = ltb k (z .objects) || not free
-
 unfoldable pub tagGood : Sizes → ℕ → ℕ → Bool
 tagGood z k tag = ltb k (z .objects) || eqb tag 0
-
--- how many elements pass the test
-unfoldable pub howMany : {A : Type 0} → (A → Bool) → List A → ℕ
-howMany test [] = 0
-howMany test (x ∷ xs) = bit (test x) + howMany test xs
-
--- "0 means no object"
-abbrev pub some : ℕ → Bool
-some object = not (eqb object 0)

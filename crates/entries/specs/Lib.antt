@@ -2,4 +2,7 @@
 pub mod Sizes
 pub mod Phases
 pub mod Entries
+pub mod Facts
+pub mod PhaseFacts
 pub mod Tally
+pub mod Counting

@@ -25,6 +25,24 @@ carriedBy (Draining slot) = 0
 carriedBy (Look object position) = object
 carriedBy (Swap object position) = object
 
+-- at which position a thread that carries an object is in its scan
+unfoldable pub scansAt : Phase → ℕ
+scansAt Idle = 0
+scansAt (Loaded slot link object) = 0
+scansAt (Published slot link) = 0
+scansAt (Draining slot) = 0
+scansAt (Look object position) = position
+scansAt (Swap object position) = position
+
+-- what a thread becomes when its scan ends: document 01's scans end idle
+unfoldable pub returnsTo : Phase → Phase
+returnsTo Idle = Idle
+returnsTo (Loaded slot link object) = Idle
+returnsTo (Published slot link) = Idle
+returnsTo (Draining slot) = Idle
+returnsTo (Look object position) = Idle
+returnsTo (Swap object position) = Idle
+
 -- "all numbers above are in range": a carried object is never 0, a Loaded one may be
 unfoldable pub phaseInRange : Sizes → Phase → Bool
 phaseInRange z Idle = true

@@ -5,12 +5,11 @@ use crate::Thread;
 use crate::ranges::is_idle;
 use crate::ranges::phase_in_range;
 use crate::ranges::positions;
-use crate::ranges::wide;
+use basics::wide;
 ghost use mathlib.Core.Path.{_≡_};
 ghost use lib.ListN.{getD};
-ghost use mathlib.Core.Bool.{false, not, _&&_, _||_};
-ghost use lib.Dec.{leb, eqb};
-ghost use Rattle.entries.specs.Entries.{idleThread, emptySlot, below, linkGood, threadGood, slotGood, freeGood, tagGood};
+ghost use Rattle.basics.specs.Under.{allUnder};
+ghost use Rattle.entries.specs.Entries.{idleThread, emptySlot, linkGood, threadGood, slotInRange, slotEmpty, slotGood, tagGood};
 
 fn link_good(z: Sizes, i: usize, object: u8) -> bool
     ensures { λ r. ⌜ r ≡ linkGood z i object ⌝ }
@@ -36,7 +35,7 @@ fn thread_good(z: Sizes, t: usize, thread: Thread) -> bool
 
 // "a protected mark stands only on a hazard that is not 0"
 fn slot_in_range(n: u8, slot: Slot) -> bool
-    ensures { λ r. ⌜ r ≡ leb (slot .hazard) n && leb (slot .handover) n && (not (slot .mark) || not (eqb (slot .hazard) 0)) ⌝ }
+    ensures { λ r. ⌜ r ≡ slotInRange n slot ⌝ }
 {
     if n < slot.hazard {
         return false;
@@ -52,7 +51,7 @@ fn slot_in_range(n: u8, slot: Slot) -> bool
 }
 
 fn slot_empty(slot: Slot) -> bool
-    ensures { λ r. ⌜ r ≡ eqb (slot .hazard) 0 && not (slot .mark) && eqb (slot .handover) 0 ⌝ }
+    ensures { λ r. ⌜ r ≡ slotEmpty slot ⌝ }
 {
     if slot.hazard != 0 {
         return false;
@@ -75,7 +74,7 @@ fn slot_good(z: Sizes, p: usize, slot: Slot) -> bool
 }
 
 pub fn links_good(z: Sizes, links: [u8; 16]) -> bool
-    ensures { λ r. ⌜ r ≡ below 16 (λ i. linkGood z i (getD links i 0)) ⌝ }
+    ensures { λ r. ⌜ r ≡ allUnder 16 (λ i. linkGood z i (getD links i 0)) ⌝ }
 {
     let mut i = 0;
     while i < 16 {
@@ -88,7 +87,7 @@ pub fn links_good(z: Sizes, links: [u8; 16]) -> bool
 }
 
 pub fn threads_good(z: Sizes, threads: [Thread; 8]) -> bool
-    ensures { λ r. ⌜ r ≡ below 8 (λ t. threadGood z t (getD threads t idleThread)) ⌝ }
+    ensures { λ r. ⌜ r ≡ allUnder 8 (λ t. threadGood z t (getD threads t idleThread)) ⌝ }
 {
     let mut t = 0;
     while t < 8 {
@@ -102,7 +101,7 @@ pub fn threads_good(z: Sizes, threads: [Thread; 8]) -> bool
 }
 
 pub fn slots_good(z: Sizes, slots: [Slot; 32]) -> bool
-    ensures { λ r. ⌜ r ≡ below 32 (λ p. slotGood z p (getD slots p emptySlot)) ⌝ }
+    ensures { λ r. ⌜ r ≡ allUnder 32 (λ p. slotGood z p (getD slots p emptySlot)) ⌝ }
 {
     let mut p = 0;
     while p < 32 {
@@ -115,22 +114,9 @@ pub fn slots_good(z: Sizes, slots: [Slot; 32]) -> bool
     true
 }
 
-// Only marks beyond N can be wrong. Every entry is looked at, here and in the tags, so that many are taken at once.
-pub fn free_good(z: Sizes, free: &[bool; 240]) -> bool
-    ensures { λ r. ⌜ r ≡ below 240 (λ k. freeGood z k (getD (now (free .entry)) k false)) ⌝ }
-{
-    let mut good = true;
-    let mut k = wide(z.objects);
-    while k < 240 {
-        good = good & !free[k];
-        k += 1;
-    }
-    good
-}
-
-// Only tags beyond N can be wrong.
+// Only tags beyond N can be wrong. Every entry is looked at, so that many are taken at once.
 pub fn tags_good(z: Sizes, tags: &[u32; 240]) -> bool
-    ensures { λ r. ⌜ r ≡ below 240 (λ k. tagGood z k (getD (now (tags .entry)) k 0)) ⌝ }
+    ensures { λ r. ⌜ r ≡ allUnder 240 (λ k. tagGood z k (getD (now (tags .entry)) k 0)) ⌝ }
 {
     let mut good = true;
     let mut k = wide(z.objects);

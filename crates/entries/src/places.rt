@@ -2,18 +2,14 @@
 use crate::Slot;
 use crate::Thread;
 use crate::ranges::carried;
+use basics::bit;
 ghost use mathlib.Core.Path.{_≡_};
 ghost use Rattle.entries.specs.Phases.{carriedBy};
-ghost use Rattle.entries.specs.Entries.{bit, howMany, some};
-
-pub fn bit(yes: bool) -> u8
-    ensures { λ r. ⌜ r ≡ bit yes ⌝ }
-{
-    if yes { 1 } else { 0 }
-}
+ghost use Rattle.basics.specs.Counts.{howMany};
+ghost use Rattle.entries.specs.Entries.{isObject};
 
 pub fn in_links(links: [u8; 16]) -> u8
-    ensures { λ r. ⌜ r ≡ howMany some links ⌝ }
+    ensures { λ r. ⌜ r ≡ howMany isObject links ⌝ }
 {
     let mut n = 0;
     let mut i = 0;
@@ -25,7 +21,7 @@ pub fn in_links(links: [u8; 16]) -> u8
 }
 
 pub fn in_hands(threads: [Thread; 8]) -> u8
-    ensures { λ r. ⌜ r ≡ howMany (λ thread. some (thread .hand)) threads ⌝ }
+    ensures { λ r. ⌜ r ≡ howMany (λ thread. isObject (thread .hand)) threads ⌝ }
 {
     let mut n = 0;
     let mut i = 0;
@@ -38,7 +34,7 @@ pub fn in_hands(threads: [Thread; 8]) -> u8
 }
 
 pub fn in_handovers(slots: [Slot; 32]) -> u8
-    ensures { λ r. ⌜ r ≡ howMany (λ slot. some (slot .handover)) slots ⌝ }
+    ensures { λ r. ⌜ r ≡ howMany (λ slot. isObject (slot .handover)) slots ⌝ }
 {
     let mut n = 0;
     let mut i = 0;
@@ -51,7 +47,7 @@ pub fn in_handovers(slots: [Slot; 32]) -> u8
 }
 
 pub fn are_carried(threads: [Thread; 8]) -> u8
-    ensures { λ r. ⌜ r ≡ howMany (λ thread. some (carriedBy (thread .phase))) threads ⌝ }
+    ensures { λ r. ⌜ r ≡ howMany (λ thread. isObject (carriedBy (thread .phase))) threads ⌝ }
 {
     let mut n = 0;
     let mut i = 0;

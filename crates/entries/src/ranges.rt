@@ -1,18 +1,13 @@
 // Whether numbers are in range: the sizes, and for good sizes what a thread is in the middle of.
 use crate::Phase;
 use crate::Sizes;
+use basics::wide;
 ghost use mathlib.Core.Path.{_≡_};
 ghost use mathlib.Core.Bool.{_&&_};
 ghost use lib.Dec.{leb, ltb};
 ghost use Rattle.entries.specs.Sizes.{within, inRange, allZero, positions};
 ghost use Rattle.entries.specs.Entries.{sizesGood};
-ghost use Rattle.entries.specs.Phases.{isIdle, carriedBy, phaseInRange};
-
-pub fn wide(x: u8) -> usize
-    ensures { λ r. ⌜ r ≡ x ⌝ }
-{
-    x as usize
-}
+ghost use Rattle.entries.specs.Phases.{isIdle, carriedBy, scansAt, returnsTo, phaseInRange};
 
 fn within(low: u8, high: u8, n: u8) -> bool
     ensures { λ r. ⌜ r ≡ within low high n ⌝ }
@@ -110,6 +105,54 @@ pub fn carried(phase: Phase) -> u8
             object,
             position: _,
         } => object,
+    }
+}
+
+// The position at which a thread that carries an object is in its scan.
+pub fn scan_position(phase: Phase) -> u8
+    ensures { λ r. ⌜ r ≡ scansAt phase ⌝ }
+{
+    match phase {
+        Phase::Idle => 0,
+        Phase::Loaded {
+            slot: _,
+            link: _,
+            object: _,
+        } => 0,
+        Phase::Published { slot: _, link: _ } => 0,
+        Phase::Draining { slot: _ } => 0,
+        Phase::Look {
+            object: _,
+            position,
+        } => position,
+        Phase::Swap {
+            object: _,
+            position,
+        } => position,
+    }
+}
+
+// What a thread becomes when its scan ends.
+pub fn returns_to(phase: Phase) -> Phase
+    ensures { λ r. ⌜ r ≡ returnsTo phase ⌝ }
+{
+    match phase {
+        Phase::Idle => Phase::Idle,
+        Phase::Loaded {
+            slot: _,
+            link: _,
+            object: _,
+        } => Phase::Idle,
+        Phase::Published { slot: _, link: _ } => Phase::Idle,
+        Phase::Draining { slot: _ } => Phase::Idle,
+        Phase::Look {
+            object: _,
+            position: _,
+        } => Phase::Idle,
+        Phase::Swap {
+            object: _,
+            position: _,
+        } => Phase::Idle,
     }
 }
 

@@ -2,7 +2,7 @@
 use crate::Slot;
 use crate::Thread;
 use crate::ranges::carried;
-use crate::ranges::wide;
+use basics::wide;
 ghost use mathlib.Core.Path.{_≡_};
 ghost use Prim.Native.Nat.{ℕ, _≤_, _<_};
 ghost use lib.ListN.{length, getD, replicate};

@@ -11,7 +11,7 @@ use Rattle.machine.specs.Fresh.{startOf}
 use Rattle.machine.specs.Soundness.{sound}
 use Rattle.machine.specs.Step.{stepOf}
 use Rattle.machine.specs.Count.{countOf}
-use Rattle.records.specs.Promise.{allowed-once}
+use Rattle.basics.specs.Functions.{allowed-once}
 
 pub start-once : (z : Sizes) (r r′ : Started) → r ≡ startOf z → r′ ≡ startOf z → r ≡ r′
 start-once = allowed-once startOf

@@ -1,7 +1,7 @@
--- What holds of every call. To read: First, Laws; Change, Changes; Determined.
-pub mod First
-pub mod Laws
-pub mod Change
-pub mod Changes
+-- What holds of every call. To read: Ways, Promise; OnePlace, Stores; Determined.
+pub mod Ways
+pub mod OnePlace
+pub mod Stores
+pub mod Promise
 pub mod Determined
 pub mod Lemmas

@@ -1,4 +1,4 @@
--- Bytes written after bytes: the laws of `written` that every function of the crate uses. Assumes nothing.
+-- Bytes written after bytes: the laws of `written` that every function of the crate uses.
 use Prim.Native.Nat.{ℕ, _+_, _≤_, _<_}
 use mathlib.Core.Path.{_≡_, refl, ap, _∙_}
 use mathlib.Core.List.{List, [], _∷_, _++_, append-assoc}

@@ -1,4 +1,4 @@
--- Laws of `decimal`: its last digit and the digits before it, and how many digits there are. Assumes nothing.
+-- Facts of `decimal`: its last digit and the digits before it, and how many digits there are.
 use Prim.Native.Nat.{ℕ, zero, suc, _*_, _/_, _%_, _^_, _≤_, _<_}
 use mathlib.Core.Path.{_≡_, sym, ap, _∙_}
 use mathlib.Core.List.{List, [], _∷_, _++_}

@@ -1,4 +1,4 @@
--- Laws of `joined`: its first field and the line that follows it. Assumes nothing.
+-- Facts of `joined`: its first field and the line that follows it.
 use Prim.Native.Nat.{ℕ, suc, _+_, _<_}
 use mathlib.Core.Path.{_≡_, sym}
 use mathlib.Core.List.{List, [], _∷_, _++_, map}

@@ -1,4 +1,4 @@
--- Laws that several functions' proofs cite.
+-- Lemmas that several functions' proofs cite.
 pub mod Appending
 pub mod Decimals
 pub mod Fields

@@ -1,4 +1,4 @@
--- What a run writes from a state and the bytes that are left, by what is read there. Assumes nothing.
+-- What a run writes from a state and the bytes that are left, by what is read there.
 use Prim.Native.Nat.{ℕ, suc, _+_, _-_, _≤_, _<_}
 use mathlib.Core.Path.{_≡_, refl}
 use mathlib.Core.List.{List, [], _∷_, _++_, append-nil}

@@ -1,4 +1,4 @@
--- No line of a run is longer than 40 bytes. Assumes nothing.
+-- No line of a run is longer than 40 bytes.
 use Prim.Native.Nat.{ℕ, _^_, _≤_, _<_}
 use mathlib.Core.Path.{_≡_}
 use native.Mathlib.Omega.{arith}

@@ -5,7 +5,7 @@ pub mod Line
 pub mod Run
 pub mod Written
 pub mod Lent
-pub mod Laws
+pub mod Lemmas
 pub mod Promise
 pub mod Computing
 pub mod Worked

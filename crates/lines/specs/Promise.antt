@@ -1,10 +1,10 @@
--- What is promised of a run's text beside the contract of `run`. Each proof is a name; the lemmas are in `Laws`.
+-- What is promised of a run's text beside the contract of `run`. Each proof is a name; the lemmas are in `Lemmas`.
 use Prim.Native.Nat.{ℕ, _<_}
 use mathlib.Core.Path.{_≡_}
 use mathlib.Core.List.{List}
 use lib.ListN.{length, take}
 use Rattle.lines.specs.Run.{textOf}
-use Rattle.lines.specs.Laws.Enough as enough
+use Rattle.lines.specs.Lemmas.Enough as enough
 
 -- 60,020 bytes, a sizes record, 6,000 steps and one record more, decide the text: what comes after them is never looked at.
 pub enough-read : (input : List ℕ) → textOf (take 60020 input) ≡ textOf input

@@ -7,16 +7,18 @@ use Rattle.machine.specs.declared.Counted.{Counted}
 use Rattle.machine.specs.declared.Verdict.the-variants.{Good, Refused}
 use Rattle.entries.specs.Phases.{carriedBy}
 use Rattle.machine.specs.Soundness.{sound}
-use Rattle.entries.specs.Entries.{howMany, some}
+use Rattle.basics.specs.Counts.{howMany}
+use Rattle.entries.specs.Entries.{isObject}
+use Rattle.pool.specs.Pool.{freeCount}
 
-unfoldable pub placesOf : State → Places
-placesOf s =
+unfoldable pub fivePlaces : State → Places
+fivePlaces s =
     record {
-      free = howMany (λ free. free) (s .free);
-      links = howMany some (s .links);
-      hands = howMany (λ thread. some (thread .hand)) (s .threads);
-      handovers = howMany (λ slot. some (slot .handover)) (s .slots);
-      carried = howMany (λ thread. some (carriedBy (thread .phase))) (s .threads);
+      free = freeCount (s .pool);
+      links = howMany isObject (s .links);
+      hands = howMany (λ thread. isObject (thread .hand)) (s .threads);
+      handovers = howMany (λ slot. isObject (slot .handover)) (s .slots);
+      carried = howMany (λ thread. isObject (carriedBy (thread .phase))) (s .threads);
     }
 
 abbrev pub noPlaces : Places
@@ -25,5 +27,5 @@ noPlaces = record { free = 0; links = 0; hands = 0; handovers = 0; carried = 0 }
 unfoldable pub countOf : State → Counted
 countOf s =
     cond (sound s)
-    (record { places = placesOf s; verdict = Good })
+    (record { places = fivePlaces s; verdict = Good })
     (record { places = noPlaces; verdict = Refused 19 })

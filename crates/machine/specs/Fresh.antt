@@ -1,8 +1,6 @@
 -- "A fresh machine has every object free, tags 0, all else 0 and idle." "Starting with a size out of range is refused 20 and returns the
 -- blank state."
-use Prim.Native.Nat.{ℕ, _-_}
-use mathlib.Core.Bool.{Bool, true, false, cond}
-use mathlib.Core.List.{List, _++_}
+use mathlib.Core.Bool.{cond}
 use lib.ListN.{replicate}
 use Rattle.entries.specs.declared.Sizes.{Sizes}
 use Rattle.machine.specs.declared.State.{State}
@@ -10,10 +8,7 @@ use Rattle.machine.specs.declared.Started.{Started}
 use Rattle.machine.specs.declared.Verdict.the-variants.{Good, Refused}
 use Rattle.entries.specs.Sizes.{inRange}
 use Rattle.entries.specs.Entries.{idleThread, emptySlot}
-
--- the free marks of which the first n are on
-unfoldable pub marked : ℕ → List Bool
-marked n = replicate n true ++ replicate (240 - n) false
+use Rattle.pool.specs.Pool.{freshPool}
 
 unfoldable pub freshOf : Sizes → State
 freshOf z =
@@ -22,7 +17,7 @@ freshOf z =
       links = replicate 16 0;
       threads = replicate 8 idleThread;
       slots = replicate 32 emptySlot;
-      free = marked (z .objects);
+      pool = freshPool (z .objects);
       tags = replicate 240 0;
     }
 
@@ -34,7 +29,7 @@ blank =
       links = replicate 16 0;
       threads = replicate 8 idleThread;
       slots = replicate 32 emptySlot;
-      free = replicate 240 false;
+      pool = freshPool 0;
       tags = replicate 240 0;
     }
 

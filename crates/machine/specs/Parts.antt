@@ -1,13 +1,15 @@
 -- The parts of a state, read and stored.
 -- "Threads, slots and links are numbered from 0, objects from 1; 0 means no object."
 use Prim.Native.Nat.{ℕ, _+_, _*_, _-_}
-use mathlib.Core.Bool.{Bool, false}
+use mathlib.Core.Bool.{Bool}
 use lib.ListN.{getD, set}
 use Rattle.machine.specs.declared.State.{State}
 use Rattle.entries.specs.declared.Thread.{Thread}
 use Rattle.entries.specs.declared.Slot.{Slot}
 use Rattle.entries.specs.declared.Phase.{Phase}
-use Rattle.entries.specs.Entries.{idleThread, emptySlot}
+use Rattle.pool.specs.declared.Pool.{Pool}
+use Rattle.entries.specs.Entries.{thread, idleThread, emptySlot}
+use Rattle.pool.specs.Pool.{isFree}
 
 -- "per link: an object or 0"
 abbrev pub linkAt : State → ℕ → ℕ
@@ -33,7 +35,7 @@ positionOf s t slot = t * s .sizes .slots + slot
 
 -- "per object: a free mark and a tag"; objects are numbered from 1
 abbrev pub freeAt : State → ℕ → Bool
-freeAt s o = getD (s .free) (o - 1) false
+freeAt s o = isFree (s .pool) o
 
 abbrev pub tagOf : State → ℕ → ℕ
 tagOf s o = getD (s .tags) (o - 1) 0
@@ -47,7 +49,7 @@ withLink s i o =
       links = set (s .links) i o;
       threads = s .threads;
       slots = s .slots;
-      free = s .free;
+      pool = s .pool;
       tags = s .tags;
     }
 
@@ -56,9 +58,9 @@ withThread s t hand phase =
     record {
       sizes = s .sizes;
       links = s .links;
-      threads = set (s .threads) t (record { hand = hand; phase = phase });
+      threads = set (s .threads) t (thread hand phase);
       slots = s .slots;
-      free = s .free;
+      pool = s .pool;
       tags = s .tags;
     }
 
@@ -69,18 +71,22 @@ withSlot s p slot =
       links = s .links;
       threads = s .threads;
       slots = set (s .slots) p slot;
-      free = s .free;
+      pool = s .pool;
       tags = s .tags;
     }
 
--- the object's free mark and tag together: both change when it is handed out and when it becomes free
-abbrev pub withObject : State → ℕ → Bool → ℕ → State
-withObject s o free tag =
+-- the pool and an object's tag together: both change when it is handed out and when it becomes free
+abbrev pub withPool : State → Pool → ℕ → ℕ → State
+withPool s pool o tag =
     record {
       sizes = s .sizes;
       links = s .links;
       threads = s .threads;
       slots = s .slots;
-      free = set (s .free) (o - 1) free;
+      pool = pool;
       tags = set (s .tags) (o - 1) tag;
     }
+
+-- the thread's hand kept, its phase another
+abbrev pub become : State → ℕ → Phase → State
+become s t phase = withThread s t (handOf s t) phase

@@ -11,30 +11,15 @@ use entries::Thread;
 ghost use mathlib.Core.Path.{_≡_};
 ghost use mathlib.Core.Bool.{cond};
 ghost use Prim.Native.Nat.{_+_, _*_, _<_, _≤_};
-ghost use lib.ListN.{length, getD};
+ghost use lib.ListN.{getD};
 ghost use lib.Dec.{eqb};
-ghost use Rattle.machine.specs.Parts.{positionOf, slotAt};
 ghost use Rattle.entries.specs.Entries.{emptySlot};
-ghost use Rattle.machine.specs.Calls.{firstOn, nextFree, takeOf, protectOf, swapOf, readOf, retireOf, clearOf};
-
-// The number of the first mark that is on; 0 where none is.
-pub(crate) fn first_on(marks: &[bool; 240]) -> u8
-    requires { ⌜ length (now marks) ≡ 240 ⌝ }
-    ensures number { λ r. ⌜ r ≡ firstOn 0 (now (marks .entry)) ⌝ }
-    ensures within { λ r. ⌜ r ≤ 240 ⌝ }
-{
-    let mut k: usize = 0;
-    while k < 240 {
-        if marks[k] {
-            return k as u8 + 1;
-        }
-        k += 1;
-    }
-    0
-}
+ghost use Rattle.pool.specs.Pool.{nextOf};
+ghost use Rattle.machine.specs.Parts.{positionOf, slotAt};
+ghost use Rattle.machine.specs.Calls.{takeOf, protectOf, swapOf, readOf, retireOf, clearOf};
 
 // what the link must hold for a swap: "the slot's object (255: holds 0)"
-fn wanted(sizes: Sizes, slots: [Slot; 32], thread: u8, slot: u8) -> u8
+fn expected(sizes: Sizes, slots: [Slot; 32], thread: u8, slot: u8) -> u8
     requires { ⌜ ((slot ≡ 255 → ⊥) → thread * sizes .slots + slot < 32) ⌝ }
     ensures { λ r. ⌜ r ≡ cond (eqb slot 255) 0 ((getD slots (thread * sizes .slots + slot) emptySlot) .hazard) ⌝ }
 {
@@ -48,10 +33,12 @@ fn wanted(sizes: Sizes, slots: [Slot; 32], thread: u8, slot: u8) -> u8
 impl State {
     // take: "lowest-numbered free object goes to the hand with this tag"
     pub(crate) fn take(self, thread: u8, tag: u32) -> Outcome
-        requires { ⌜ (thread < 8) × (0 < nextFree self) ⌝ }
+        requires { ⌜ (thread < 8) × (0 < nextOf (self .pool)) ⌝ }
         ensures { λ r. ⌜ r ≡ takeOf self thread tag ⌝ }
     {
-        let object = first_on(&self.free);
+        let pool = self.pool;
+        let object = pool.next();
+        let taken = pool.take_out(object);
         let t = thread as usize;
         let me = self.threads[t];
         let phase = me.phase;
@@ -61,7 +48,7 @@ impl State {
             phase,
         };
         let o = object as usize - 1;
-        next.free[o] = false;
+        next.pool = taken;
         next.tags[o] = tag;
         Outcome {
             state: next,
@@ -99,7 +86,7 @@ impl State {
         let there = self.links[l];
         let sizes = self.sizes;
         let slots = self.slots;
-        if there != wanted(sizes, slots, thread, slot) {
+        if there != expected(sizes, slots, thread, slot) {
             return Outcome {
                 state: self,
                 answer: Answer::Moved,

@@ -4,27 +4,11 @@ use crate::Places;
 use crate::State;
 use crate::Verdict;
 use entries::are_carried;
-use entries::bit;
 use entries::in_handovers;
 use entries::in_hands;
 use entries::in_links;
 ghost use mathlib.Core.Path.{_≡_};
-ghost use lib.ListN.{length};
 ghost use Rattle.machine.specs.Count.{countOf};
-ghost use Rattle.entries.specs.Entries.{howMany};
-
-fn are_free(free: &[bool; 240]) -> u8
-    requires { ⌜ length (now free) ≡ 240 ⌝ }
-    ensures { λ r. ⌜ r ≡ howMany (λ free. free) (now (free .entry)) ⌝ }
-{
-    let mut n = 0;
-    let mut i = 0;
-    while i < 240 {
-        n += bit(free[i]);
-        i += 1;
-    }
-    n
-}
 
 impl State {
     // "The count of the five places on an unsound state is refused 19 with five zeros."
@@ -46,8 +30,9 @@ impl State {
         let links = self.links;
         let threads = self.threads;
         let slots = self.slots;
+        let pool = self.pool;
         let places = Places {
-            free: are_free(&self.free),
+            free: pool.count(),
             links: in_links(links),
             hands: in_hands(threads),
             handovers: in_handovers(slots),

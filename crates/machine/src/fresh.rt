@@ -7,36 +7,21 @@ use entries::Sizes;
 use entries::Slot;
 use entries::Thread;
 use entries::in_range;
+use pool::Pool;
 ghost use mathlib.Core.Path.{_≡_};
-ghost use Prim.Native.Nat.{_≤_};
 ghost use lib.ListN.{replicate};
 ghost use Rattle.entries.specs.Entries.{idleThread, emptySlot};
-ghost use Rattle.machine.specs.Fresh.{marked, startOf};
+ghost use Rattle.machine.specs.Fresh.{startOf};
 
-// "the first N then marked free"
-fn first_marked(n: u8) -> [bool; 240]
-    requires { ⌜ n ≤ 240 ⌝ }
-    ensures { λ r. ⌜ r ≡ marked n ⌝ }
-{
-    let mut marks = [false; 240];
-    let count = n as usize;
-    let mut i = 0;
-    while i < count {
-        marks[i] = true;
-        i += 1;
-    }
-    marks
-}
-
-// A state with these sizes and free marks, all else 0 and idle.
-fn resting(sizes: Sizes, free: [bool; 240]) -> State
+// A state with these sizes and this pool, all else 0 and idle.
+fn resting(sizes: Sizes, pool: Pool) -> State
     ensures { λ r. ⌜ r ≡
         record {
           sizes = sizes;
           links = replicate 16 0;
           threads = replicate 8 idleThread;
           slots = replicate 32 emptySlot;
-          free = free;
+          pool = pool;
           tags = replicate 240 0;
         } ⌝ }
 {
@@ -54,7 +39,7 @@ fn resting(sizes: Sizes, free: [bool; 240]) -> State
         links: [0; 16],
         threads: [thread; 8],
         slots: [slot; 32],
-        free,
+        pool,
         tags: [0; 240],
     }
 }
@@ -70,8 +55,8 @@ pub fn start(threads: u8, slots: u8, links: u8, objects: u8) -> Started
         objects,
     };
     if in_range(sizes) {
-        let free = first_marked(objects);
-        let state = resting(sizes, free);
+        let pool = Pool::fresh(objects);
+        let state = resting(sizes, pool);
         Started {
             state,
             verdict: Verdict::Good,
@@ -83,8 +68,8 @@ pub fn start(threads: u8, slots: u8, links: u8, objects: u8) -> Started
             links: 0,
             objects: 0,
         };
-        let free = [false; 240];
-        let state = resting(none, free);
+        let pool = Pool::fresh(0);
+        let state = resting(none, pool);
         Started {
             state,
             verdict: Verdict::Refused(20),

@@ -1,4 +1,4 @@
-// "Go on": one step, by what the thread is in the middle of.
+// "Go on": one step, by what the thread is in the middle of. A scan ends where its phase says that it returns to.
 use crate::Answer;
 use crate::Outcome;
 use crate::State;
@@ -6,6 +6,7 @@ use crate::parts::position;
 use entries::Phase;
 use entries::Slot;
 use entries::Thread;
+use entries::returns_to;
 ghost use mathlib.Core.Path.{_≡_};
 ghost use mathlib.Core.Bool.{true};
 ghost use Prim.Native.Nat.{_<_, _≤_};
@@ -162,15 +163,18 @@ impl State {
         requires { ⌜ (thread < 8) × ((0 < object) × (object ≤ 240)) ⌝ }
         ensures { λ r. ⌜ r ≡ lookOf self thread object (positions (self .sizes)) ⌝ }
     {
+        let pool = self.pool;
+        let freed = pool.put_back(object);
         let t = thread as usize;
         let me = self.threads[t];
+        let phase = me.phase;
         let mut next = self;
         next.threads[t] = Thread {
             hand: me.hand,
-            phase: Phase::Idle,
+            phase: returns_to(phase),
         };
         let o = object as usize - 1;
-        next.free[o] = true;
+        next.pool = freed;
         next.tags[o] = 0;
         Outcome {
             state: next,
@@ -195,9 +199,10 @@ impl State {
         let t = thread as usize;
         let me = self.threads[t];
         if old == 0 {
+            let phase = me.phase;
             next.threads[t] = Thread {
                 hand: me.hand,
-                phase: Phase::Idle,
+                phase: returns_to(phase),
             };
             return Outcome {
                 state: next,

@@ -12,13 +12,14 @@ use entries::Sizes;
 use entries::Slot;
 use entries::Thread;
 pub use fresh::start;
+use pool::Pool;
 
 pub struct State {
     pub sizes: Sizes,
     pub links: [u8; 16],
     pub threads: [Thread; 8],
     pub slots: [Slot; 32],
-    pub free: [bool; 240],
+    pub pool: Pool,
     pub tags: [u32; 240],
 }
 

@@ -1,7 +1,6 @@
 // "The first that applies is given, in this order, and never otherwise."
 use crate::Call;
 use crate::State;
-use crate::calls::first_on;
 use crate::parts::position;
 use crate::parts::slot_at;
 use entries::Sizes;
@@ -9,16 +8,12 @@ use entries::Slot;
 use entries::Thread;
 use entries::is_idle;
 ghost use mathlib.Core.Path.{_≡_};
-ghost use mathlib.Core.Bool.{true, not, _&&_, _||_};
-ghost use mathlib.Core.List.{[], _∷_};
+ghost use mathlib.Core.Bool.{true, not, _&&_};
 ghost use Prim.Native.Nat.{_+_, _*_, _<_};
-ghost use lib.ListN.{length, getD};
-ghost use lib.Dec.{ltb, eqb};
-ghost use Rattle.entries.specs.Sizes.{within};
+ghost use lib.ListN.{getD};
+ghost use Rattle.basics.specs.Rows.{firstOf};
 ghost use Rattle.entries.specs.Entries.{emptySlot};
-ghost use Rattle.entries.specs.Phases.{isIdle};
-ghost use Rattle.machine.specs.Calls.{firstOn};
-ghost use Rattle.machine.specs.Refusals.{usesSlot, usesLink, usesTag, unusedNotZero, withoutSlot, _when_, firstOf, refusalOf};
+ghost use Rattle.machine.specs.Refusals.{usesSlot, usesLink, usesTag, unusedNotZero, withoutSlot, readsSlot, fieldRows, threadRows, refusalOf};
 
 // the column "Uses"
 
@@ -56,13 +51,7 @@ fn without_slot(call: Call) -> bool
 
 // The lines that look at the call's fields and the sizes alone.
 fn field_refusal(sizes: Sizes, call: Call) -> u8
-    ensures { λ r. ⌜ r ≡ firstOf
-        ((21 when not (ltb (call .thread) (sizes .threads))) ∷
-        (22 when not (within 1 7 (call .operation))) ∷
-        (23 when unusedNotZero call) ∷
-        (24 when usesSlot (call .operation) && not (ltb (call .slot) (sizes .slots)) && not (withoutSlot call)) ∷
-        (25 when usesLink (call .operation) && not (ltb (call .link) (sizes .links))) ∷
-        []) ⌝ }
+    ensures { λ r. ⌜ r ≡ firstOf (fieldRows sizes call) ⌝ }
 {
     if sizes.threads <= call.thread {
         return 21;
@@ -84,12 +73,7 @@ fn field_refusal(sizes: Sizes, call: Call) -> u8
 
 // The lines that look at what the thread is in the middle of and at its hand.
 fn thread_refusal(me: Thread, operation: u8) -> u8
-    ensures { λ r. ⌜ r ≡ firstOf
-        ((26 when within 1 6 operation && not (isIdle (me .phase))) ∷
-        (27 when eqb operation 7 && isIdle (me .phase)) ∷
-        (28 when eqb operation 1 && not (eqb (me .hand) 0)) ∷
-        (29 when eqb operation 5 && eqb (me .hand) 0) ∷
-        []) ⌝ }
+    ensures { λ r. ⌜ r ≡ firstOf (threadRows me operation) ⌝ }
 {
     let phase = me.phase;
     let idle = is_idle(phase);
@@ -109,37 +93,23 @@ fn thread_refusal(me: Thread, operation: u8) -> u8
     0
 }
 
-// Whether the call reads the object of its slot: "swap with a slot, or read"
+// Whether the call goes by the object of its slot: "swap with a slot, or read"
 fn reads_slot(call: Call) -> bool
-    ensures { λ r. ⌜ r ≡ ((eqb (call .operation) 3 && not (withoutSlot call)) || eqb (call .operation) 4) ⌝ }
+    ensures { λ r. ⌜ r ≡ readsSlot call ⌝ }
 {
     ((call.operation == 3) & !without_slot(call)) | (call.operation == 4)
 }
 
 // "swap with a slot, or read: slot not protected"
 fn unprotected(sizes: Sizes, slots: [Slot; 32], call: Call) -> bool
-    requires { ⌜ (((eqb (call .operation) 3 && not (withoutSlot call)) || eqb (call .operation) 4) ≡ true →
-        call .thread * sizes .slots + call .slot < 32) ⌝ }
-    ensures { λ r. ⌜ r ≡
-        (((eqb (call .operation) 3 && not (withoutSlot call)) || eqb (call .operation) 4) &&
-        not ((getD slots (call .thread * sizes .slots + call .slot) emptySlot) .mark)) ⌝ }
+    requires { ⌜ (readsSlot call ≡ true → call .thread * sizes .slots + call .slot < 32) ⌝ }
+    ensures { λ r. ⌜ r ≡ (readsSlot call && not ((getD slots (call .thread * sizes .slots + call .slot) emptySlot) .mark)) ⌝ }
 {
     if !reads_slot(call) {
         return false;
     }
     let held = slot_at(slots, position(call.thread, sizes.slots, call.slot));
     !held.mark
-}
-
-// "take: no object free"
-fn none_free(operation: u8, free: &[bool; 240]) -> bool
-    requires { ⌜ length (now free) ≡ 240 ⌝ }
-    ensures { λ r. ⌜ r ≡ (eqb operation 1 && eqb (firstOn 0 (now (free .entry))) 0) ⌝ }
-{
-    if operation != 1 {
-        return false;
-    }
-    first_on(free) == 0
 }
 
 impl State {
@@ -165,8 +135,12 @@ impl State {
         if unprotected(sizes, slots, call) {
             return 31;
         }
-        if none_free(call.operation, &self.free) {
-            return 30;
+        // "take: no object free"; only a take looks for one
+        if call.operation == 1 {
+            let pool = self.pool;
+            if pool.next() == 0 {
+                return 30;
+            }
         }
         0
     }

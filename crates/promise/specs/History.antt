@@ -8,7 +8,7 @@ use Rattle.machine.specs.declared.Call.{Call}
 use Rattle.machine.specs.declared.Answer.{Answer}
 use Rattle.machine.specs.declared.Outcome.{Outcome}
 use Rattle.machine.specs.Answers.{numbersOf}
-use Rattle.entries.specs.Entries.{howMany}
+use Rattle.basics.specs.Counts.{howMany}
 use Rattle.machine.specs.Step.{stepOf}
 
 -- one call of a run: the state it came to, the call, and its answer
@@ -16,6 +16,10 @@ pub record Event : Type 0 where
   pub before : State
   pub call : Call
   pub answer : Answer
+
+-- the answer's number, by which a call is accepted (1 to 11) or refused
+abbrev pub answerNumber : Event → ℕ
+answerNumber e = (numbersOf (e .answer)) .number
 
 -- what takes a step: the machine, or one with a rule changed, of which Promise would not hold
 abbrev pub Machine : Type 0
@@ -44,11 +48,11 @@ stateAfter = stateBy stepOf
 
 -- an accepted retire: operation 5, answered 2 Begun
 unfoldable pub isRetire : Event → Bool
-isRetire e = eqb (e .call .operation) 5 && eqb ((numbersOf (e .answer)) .number) 2
+isRetire e = eqb (e .call .operation) 5 && eqb (answerNumber e) 2
 
 -- a Freed answer: 11
 unfoldable pub isFreed : Event → Bool
-isFreed e = eqb ((numbersOf (e .answer)) .number) 11
+isFreed e = eqb (answerNumber e) 11
 
 -- "Counts come from the history: accepted retires less Freed answers"
 unfoldable pub retires : List Event → ℕ

@@ -10,9 +10,9 @@ use Rattle.entries.specs.declared.Phase.the-variants.{Idle, Loaded, Published, 
 use Rattle.entries.specs.Sizes.{positions}
 use Rattle.machine.specs.Parts.{linkAt, handOf, phaseOf, slotAt, positionOf}
 use Rattle.machine.specs.Answers.{numbersOf}
-use Rattle.machine.specs.Count.{placesOf}
+use Rattle.machine.specs.Count.{fivePlaces}
 use Rattle.promise.specs.Store.{Store}
-use Rattle.promise.specs.History.{Event}
+use Rattle.promise.specs.History.{Event, answerNumber}
 use Rattle.promise.specs.Reading.{Reading, recordOf}
 
 pub record SameHoldings (s : State) (r : Reading) (store : Store) : Type 0 where
@@ -22,7 +22,7 @@ pub record SameHoldings (s : State) (r : Reading) (store : Store) : Type 0 where
 
 -- "non-zero handovers plus carried objects": given up and not yet freed
 abbrev pub waiting : State → ℕ
-waiting s = (placesOf s) .handovers + (placesOf s) .carried
+waiting s = (fivePlaces s) .handovers + (fivePlaces s) .carried
 
 -- no link, no hand and no protected slot holds the object
 pub record Unheld (s : State) (object : ℕ) : Type 0 where
@@ -44,11 +44,11 @@ publishesAt s p thread (Swap object position) = false
 unfoldable pub renews : ℕ → Event → Bool
 renews p e =
     cond (eqb (e .call .operation) 6)
-    (eqb ((numbersOf (e .answer)) .number) 2 && eqb (positionOf (e .before) (e .call .thread) (e .call .slot)) p)
+    (eqb (answerNumber e) 2 && eqb (positionOf (e .before) (e .call .thread) (e .call .slot)) p)
     (eqb (e .call .operation) 7 &&
-    eqb ((numbersOf (e .answer)) .number) 3 &&
+    eqb (answerNumber e) 3 &&
     publishesAt (e .before) p (e .call .thread) (phaseOf (e .before) (e .call .thread)))
 
 -- the event hands the object out: answer 1 Taken (object, 0)
 unfoldable pub handsOut : ℕ → Event → Bool
-handsOut object e = eqb ((numbersOf (e .answer)) .number) 1 && eqb ((numbersOf (e .answer)) .a) object
+handsOut object e = eqb (answerNumber e) 1 && eqb ((numbersOf (e .answer)) .a) object

@@ -6,4 +6,6 @@ pub mod Listing
 pub mod Holdings
 pub mod Run
 pub mod Promise
+pub mod Guard
 pub mod Lemmas
+pub mod Moments

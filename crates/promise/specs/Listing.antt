@@ -10,16 +10,12 @@ use Rattle.entries.specs.declared.Phase.the-variants.{Idle, Loaded, Published, 
 use Rattle.entries.specs.Sizes.{within}
 use Rattle.machine.specs.Parts.{phaseOf}
 use Rattle.machine.specs.Answers.{Numbers, numbersOf}
-use Rattle.promise.specs.Store.{Whole, take, protect, swap, read, retire, clear}
-use Rattle.promise.specs.History.{Event}
+use Rattle.promise.specs.Store.{PlainCall, take, protect, swap, read, retire, clear}
+use Rattle.promise.specs.History.{Event, answerNumber}
 use Rattle.promise.specs.Reading.{Reading, noted, renamed}
 
--- the answer's number, by which a call is accepted (1 to 11) or refused
-abbrev pub numberOf : Event → ℕ
-numberOf e = (numbersOf (e .answer)) .number
-
 -- operations 1 and 3 to 6, when accepted, by their numbers
-unfoldable pub atOnce : Call → List Whole
+unfoldable pub atOnce : Call → List PlainCall
 atOnce c =
     cond (eqb (c .operation) 1) (take (c .thread) (c .tag) ∷ [])
     (cond (eqb (c .operation) 3) (swap (c .thread) (c .slot) (c .link) ∷ [])
@@ -28,7 +24,7 @@ atOnce c =
     (cond (eqb (c .operation) 6) (clear (c .thread) (c .slot) ∷ []) []))))
 
 -- the protect that a thread is about to finish: only Published has one
-unfoldable pub ending : ℕ → Phase → List Whole
+unfoldable pub ending : ℕ → Phase → List PlainCall
 ending thread Idle = []
 ending thread (Loaded slot link object) = []
 ending thread (Published slot link) = protect thread slot link ∷ []
@@ -37,15 +33,15 @@ ending thread (Look object position) = []
 ending thread (Swap object position) = []
 
 -- the call that is listed at this event, or none
-unfoldable pub listedOf : Event → List Whole
+unfoldable pub listedOf : Event → List PlainCall
 listedOf e =
-    cond (within 1 11 (numberOf e))
+    cond (within 1 11 (answerNumber e))
     (cond (eqb (e .call .operation) 7)
-    (cond (eqb (numberOf e) 4 || eqb (numberOf e) 5) (ending (e .call .thread) (phaseOf (e .before) (e .call .thread))) [])
+    (cond (eqb (answerNumber e) 4 || eqb (answerNumber e) 5) (ending (e .call .thread) (phaseOf (e .before) (e .call .thread))) [])
     (atOnce (e .call)))
     []
 
-unfoldable pub listing : List Event → List Whole
+unfoldable pub listing : List Event → List PlainCall
 listing [] = []
 listing (e ∷ events) = listedOf e ++ listing events
 

@@ -5,7 +5,7 @@ use mathlib.Core.List.{List, [], _∷_}
 use lib.Dec.{eqb}
 use Rattle.machine.specs.declared.Answer.{Answer}
 use Rattle.machine.specs.declared.Answer.the-variants.{Refused, Taken, Begun, Working, Protected, Nothing, Swapped, Moved, Tag, Finished, Left, Freed}
-use Rattle.promise.specs.Store.{put}
+use Rattle.basics.specs.Functions.{put}
 use Rattle.promise.specs.History.{Event}
 
 -- how many takes there were, and the number of the one that last handed each object out

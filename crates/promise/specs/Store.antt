@@ -4,6 +4,7 @@ use mathlib.Core.Bool.{cond}
 use mathlib.Core.List.{List, [], _∷_, _++_}
 use lib.ListN.{length, getD}
 use lib.Dec.{eqb}
+use Rattle.basics.specs.Functions.{put}
 use Rattle.machine.specs.Answers.{Numbers, numbers}
 
 -- Each holds the number of a record, or 0 for nothing; records are numbered from 1 in the order of their takes, and `tags` has their tags
@@ -14,24 +15,20 @@ pub record Store : Type 0 where
   pub slots : ℕ → ℕ
   pub tags : List ℕ
 
-abbrev pub nothing : Store
-nothing = record { links = λ i. 0; hands = λ t. 0; slots = λ p. 0; tags = [] }
-
--- f with another value at i
-unfoldable pub put : (ℕ → ℕ) → ℕ → ℕ → ℕ → ℕ
-put f i value j = cond (eqb j i) value (f j)
+abbrev pub emptyStore : Store
+emptyStore = record { links = λ i. 0; hands = λ t. 0; slots = λ p. 0; tags = [] }
 
 abbrev pub tagOfRecord : Store → ℕ → ℕ
 tagOfRecord store number = getD (store .tags) (number - 1) 0
 
 -- the calls that the store does whole, with the fields they use
-pub data Whole : Type 0 where
-  take : ℕ → ℕ → Whole
-  protect : ℕ → ℕ → ℕ → Whole
-  swap : ℕ → ℕ → ℕ → Whole
-  read : ℕ → ℕ → Whole
-  retire : ℕ → Whole
-  clear : ℕ → ℕ → Whole
+pub data PlainCall : Type 0 where
+  take : ℕ → ℕ → PlainCall
+  protect : ℕ → ℕ → ℕ → PlainCall
+  swap : ℕ → ℕ → ℕ → PlainCall
+  read : ℕ → ℕ → PlainCall
+  retire : ℕ → PlainCall
+  clear : ℕ → ℕ → PlainCall
 
 module _ (perThread : ℕ) where
   -- "A slot's position is thread × H + slot"
@@ -39,24 +36,24 @@ module _ (perThread : ℕ) where
   at thread slot = thread * perThread + slot
 
   -- what a swap compares the link with: "the slot's object (255: holds 0)"
-  abbrev pub wanted : Store → ℕ → ℕ → ℕ
-  wanted store thread slot = cond (eqb slot 255) 0 (store .slots (at thread slot))
+  abbrev pub expected : Store → ℕ → ℕ → ℕ
+  expected store thread slot = cond (eqb slot 255) 0 (store .slots (at thread slot))
 
   -- the answer's number and values, a record's number where the machine has an object's
-  unfoldable pub says : Store → Whole → Numbers
+  unfoldable pub says : Store → PlainCall → Numbers
   says store (take thread tag) = numbers 1 (suc (length (store .tags))) 0
   says store (protect thread slot link) =
       cond (eqb (store .links link) 0)
       (numbers 5 0 0)
       (numbers 4 (store .links link) (tagOfRecord store (store .links link)))
   says store (swap thread slot link) =
-      cond (eqb (store .links link) (wanted store thread slot)) (numbers 6 (store .links link) 0) (numbers 7 0 0)
+      cond (eqb (store .links link) (expected store thread slot)) (numbers 6 (store .links link) 0) (numbers 7 0 0)
   says store (read thread slot) = numbers 8 (tagOfRecord store (store .slots (at thread slot))) 0
   says store (retire thread) = numbers 2 (store .hands thread) 0
   says store (clear thread slot) = numbers 2 0 0
 
   -- "it does each whole: protect puts the link's record in the slot, retire empties the hand, clear empties the slot"
-  unfoldable pub next : Store → Whole → Store
+  unfoldable pub next : Store → PlainCall → Store
   next store (take thread tag) =
       record {
         links = store .links;
@@ -72,7 +69,7 @@ module _ (perThread : ℕ) where
         tags = store .tags;
       }
   next store (swap thread slot link) =
-      cond (eqb (store .links link) (wanted store thread slot))
+      cond (eqb (store .links link) (expected store thread slot))
       (record {
         links = put (store .links) link (store .hands thread);
         hands = put (store .hands) thread (store .links link);
@@ -92,10 +89,10 @@ module _ (perThread : ℕ) where
       }
 
   -- a list of calls, one after the other: the answers, and the store afterwards
-  unfoldable pub storeSays : Store → List Whole → List Numbers
+  unfoldable pub storeSays : Store → List PlainCall → List Numbers
   storeSays store [] = []
   storeSays store (call ∷ calls) = says store call ∷ storeSays (next store call) calls
 
-  unfoldable pub storeAfter : Store → List Whole → Store
+  unfoldable pub storeAfter : Store → List PlainCall → Store
   storeAfter store [] = store
   storeAfter store (call ∷ calls) = storeAfter (next store call) calls

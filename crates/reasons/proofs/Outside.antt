@@ -7,7 +7,7 @@ use native.Mathlib.Omega.{arith}
 use lib.Dec.{ltb, eqb}
 use borrow.Author.Tests.{eqb-true, eqb-false, ltb-true, ltb-false, le-leb, lt-leb}
 use Rattle.entries.specs.Sizes.{within}
-use Rattle.laws.specs.Lemmas.Bools.{tested}
+use Rattle.basics.specs.Tests.{tested}
 
 module _ (n o : ℕ) where
   some : (o ≡ 0 → ⊥) → 1 ≤ o

@@ -1,26 +1,26 @@
 -- Which reason the four searches pick, one after the other, each by what its search found.
 use Prim.Native.Nat.{ℕ, _<_, _≤_}
 use mathlib.Core.Path.{_≡_, sym, subst}
-use native.Mathlib.Nat.{mul-le-mul}
 use borrow.Author.Tests.{lt-ltb, le-ltb}
 use Rattle.machine.specs.declared.State.{State}
 use Rattle.entries.specs.Sizes.{positions}
 use Rattle.machine.specs.Parts.{phaseOf, slotAt}
-use Rattle.machine.proofs.Bounds.{Limits, limits, taken-apart}
-use Rattle.laws.specs.Lemmas.Ranged.{to-sound}
+use Rattle.entries.specs.Facts.{Bounds}
+use Rattle.entries.specs.Phases.{scansAt}
+use Rattle.machine.specs.Sound.{to-sound, limits}
 use Rattle.reasons.specs.declared.Guard.{Guard}
 use Rattle.reasons.specs.declared.Reason.the-variants.{Link, Hand, Carried, Handover}
-use Rattle.reasons.specs.Reasons.{guardOf, carriedAt, linkWith, handWith, carrierOf, handoverWith, reasonOf, refusalOf}
+use Rattle.reasons.specs.Reasons.{guardOf, linkWith, handWith, carrierOf, handoverWith, reasonOf, refusalOf}
 use Rattle.reasons.specs.Lemmas.NotRefused.{stays}
 use Rattle.reasons.specs.Lemmas.Somewhere.{left-in-handover}
 
 module _ (s : State) (o : ℕ) where
-  pub limited : refusalOf s o ≡ 0 → Limits (s .sizes)
-  limited h = limits (s .sizes) (taken-apart s (stays s o h .sound) .sizes)
+  pub limited : refusalOf s o ≡ 0 → Bounds (s .sizes)
+  limited h = limits s (to-sound s (stays s o h .sound) .ranged)
 
   -- there are at most 32 positions
   pub row-limited : refusalOf s o ≡ 0 → positions (s .sizes) ≤ 32
-  row-limited h = mul-le-mul (limited h .threads) (limited h .slots)
+  row-limited h = limited h .positions
 
   module _ (l : ℕ) (el : l ≡ linkWith s o) where
     pub in-link : l < s .sizes .links → Link l ≡ reasonOf s o
@@ -33,7 +33,7 @@ module _ (s : State) (o : ℕ) where
       in-hand less = rw (← el, le-ltb l (s .sizes .links) no-link, ← eh, lt-ltb h (s .sizes .threads) less)
 
       module _ (no-hand : s .sizes .threads ≤ h) (t : ℕ) (et : t ≡ carrierOf s o) where
-        pub is-carried : t < s .sizes .threads → (p : ℕ) → p ≡ carriedAt (phaseOf s t) → Carried t p ≡ reasonOf s o
+        pub is-carried : t < s .sizes .threads → (p : ℕ) → p ≡ scansAt (phaseOf s t) → Carried t p ≡ reasonOf s o
         unfolding reasonOf
         is-carried less p ep =
             rw (

@@ -6,11 +6,11 @@ use native.Mathlib.Nat.{mul-le-mul, mul-le-mul-right}
 use native.Mathlib.Omega.{arith}
 use lib.Dec.{ltb}
 use borrow.Author.Tests.{lt-ltb, le-ltb}
-use Rattle.laws.specs.Lemmas.Good.{position-less}
+use Rattle.entries.specs.Facts.{position-less}
 use Rattle.reasons.specs.declared.Hazard.{Hazard}
 use Rattle.reasons.specs.declared.Hazard.the-variants.{At, Nowhere}
-use Rattle.reasons.specs.First.{first}
-use Rattle.reasons.specs.Lemmas.First.{first-is, first-none}
+use Rattle.basics.specs.First.{first}
+use Rattle.basics.specs.First.{first-is, first-none}
 
 -- every position has a slot
 pub inside : (threads slots t i : ℕ) → threads ≤ 8 → slots ≤ 4 → t < threads → i < slots → t * slots + i < 32

@@ -5,7 +5,7 @@ use mathlib.Core.Bool.{true, false}
 use Rattle.machine.specs.declared.State.{State}
 use Rattle.entries.specs.declared.Slot.{Slot}
 use Rattle.entries.specs.declared.Phase.{Phase}
-use Rattle.entries.specs.declared.Phase.the-variants.{Idle, Loaded, Published, Draining, Look, Swap}
+use Rattle.entries.specs.Phases.{carriedBy, scansAt}
 use Rattle.entries.specs.Sizes.{positions}
 use Rattle.machine.specs.Parts.{linkAt, handOf, phaseOf, slotAt, freeAt}
 use Rattle.machine.specs.Soundness.{sound}
@@ -23,14 +23,9 @@ pub record Stays (s : State) (o : ℕ) : Type 0 where
   pub most : o ≤ s .sizes .objects
   pub kept : freeAt s o ≡ false
 
--- "carried by a thread with its position": only Look and Swap carry
+-- "carried by a thread with its position"
 abbrev pub Carries : ℕ → ℕ → Phase → Type 0
-Carries o p Idle = ⊥
-Carries o p (Loaded slot link object) = ⊥
-Carries o p (Published slot link) = ⊥
-Carries o p (Draining slot) = ⊥
-Carries o p (Look object position) = (object ≡ o) × (position ≡ p)
-Carries o p (Swap object position) = (object ≡ o) × (position ≡ p)
+Carries o p phase = (carriedBy phase ≡ o) × (scansAt phase ≡ p)
 
 -- "that slot's hazard is the object and protected, is the object and only published, or is something else"
 abbrev pub Guards : Slot → ℕ → Guard → Type 0

@@ -7,13 +7,13 @@ use Rattle.entries.specs.declared.Sizes.{Sizes}
 use Rattle.machine.specs.declared.Call.{Call}
 use Rattle.entries.specs.Sizes.{inRange, positions}
 use Rattle.machine.specs.Parts.{slotAt}
-use Rattle.promise.specs.Run.{machine}
+use Rattle.promise.specs.Run.{state}
 use Rattle.reasons.specs.Reasons.{whyOf}
 use Rattle.reasons.specs.Numbers.{numbersOf, Sheltered}
 use Rattle.reasons.specs.Lemmas.Runs as runs
 
 -- for all sizes in range, any calls in any order, and every slot with the mark on
 pub protected-is-sheltered : (z : Sizes) → inRange z ≡ true → (calls : List Call) (p : ℕ) → p < positions z
-    → (slotAt (machine z calls) p) .mark ≡ true
-    → Sheltered (numbersOf (whyOf (machine z calls) ((slotAt (machine z calls) p) .hazard))) p
+    → (slotAt (state z calls) p) .mark ≡ true
+    → Sheltered (numbersOf (whyOf (state z calls) ((slotAt (state z calls) p) .hazard))) p
 protected-is-sheltered = runs.sheltered

@@ -1,9 +1,8 @@
 -- Lemmas that nobody needs to read.
-pub mod First
 pub mod NotRefused
 pub mod Rows
 pub mod Somewhere
-pub mod Cases
+pub mod Guards
 pub mod Named
 pub mod Hazards
 pub mod Told

@@ -1,5 +1,4 @@
--- Request 1 as definitions: the first of a row, the reasons and refusals, their numbers; then what is promised of them.
-pub mod First
+-- Request 1 as definitions: the reasons and refusals, their numbers; then what is promised of them.
 pub mod Reasons
 pub mod Numbers
 pub mod Applies

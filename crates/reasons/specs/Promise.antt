@@ -7,8 +7,8 @@ use Rattle.machine.specs.declared.State.{State}
 use Rattle.entries.specs.Sizes.{positions}
 use Rattle.machine.specs.Parts.{freeAt}
 use Rattle.machine.specs.Soundness.{sound}
-use Rattle.laws.specs.First.{FirstIs}
-use Rattle.records.specs.Promise.{allowed-once}
+use Rattle.basics.specs.Rows.{FirstIs}
+use Rattle.basics.specs.Functions.{allowed-once}
 use Rattle.reasons.specs.declared.Reason.{Reason}
 use Rattle.reasons.specs.declared.Hazard.{Hazard}
 use Rattle.reasons.specs.declared.Hazard.the-variants.{Nowhere}

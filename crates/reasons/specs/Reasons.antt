@@ -7,13 +7,11 @@ use mathlib.Core.List.{List, [], _∷_}
 use lib.Dec.{ltb, eqb}
 use Rattle.machine.specs.declared.State.{State}
 use Rattle.entries.specs.declared.Slot.{Slot}
-use Rattle.entries.specs.declared.Phase.{Phase}
-use Rattle.entries.specs.declared.Phase.the-variants.{Idle, Loaded, Published, Draining, Look, Swap}
 use Rattle.entries.specs.Sizes.{within, positions}
 use Rattle.machine.specs.Parts.{linkAt, handOf, phaseOf, slotAt, freeAt}
-use Rattle.entries.specs.Phases.{carriedBy}
+use Rattle.entries.specs.Phases.{carriedBy, scansAt}
 use Rattle.machine.specs.Soundness.{sound}
-use Rattle.machine.specs.Refusals.{Row, _when_, firstOf}
+use Rattle.basics.specs.Rows.{Row, _when_, firstOf}
 use Rattle.reasons.specs.declared.Guard.{Guard}
 use Rattle.reasons.specs.declared.Guard.the-variants as guard
 use Rattle.reasons.specs.declared.Reason.{Reason}
@@ -22,21 +20,12 @@ use Rattle.reasons.specs.declared.Hazard.{Hazard}
 use Rattle.reasons.specs.declared.Hazard.the-variants.{At, Nowhere}
 use Rattle.reasons.specs.declared.Explained.{Explained}
 use Rattle.reasons.specs.declared.Explained.the-variants.{Kept, Refused}
-use Rattle.reasons.specs.First.{first}
+use Rattle.basics.specs.First.{first}
 
 -- "whether that slot's hazard is the object and protected, is the object and only published, or is something else"
 unfoldable pub guardOf : Slot → ℕ → Guard
 guardOf slot o =
     cond (eqb (slot .hazard) o) (cond (slot .mark) guard.Protected guard.Published) guard.Otherwise
-
--- the position at which a thread that carries an object is
-unfoldable pub carriedAt : Phase → ℕ
-carriedAt Idle = 0
-carriedAt (Loaded slot link object) = 0
-carriedAt (Published slot link) = 0
-carriedAt (Draining slot) = 0
-carriedAt (Look object position) = position
-carriedAt (Swap object position) = position
 
 module _ (s : State) (o : ℕ) where
   -- the first link, hand, carrying thread and handover that has the object; the number of them where none has
@@ -58,7 +47,7 @@ module _ (s : State) (o : ℕ) where
   reasonOf =
       cond (ltb linkWith (s .sizes .links)) (Link linkWith)
       (cond (ltb handWith (s .sizes .threads)) (Hand handWith)
-      (cond (ltb carrierOf (s .sizes .threads)) (Carried carrierOf (carriedAt (phaseOf s carrierOf)))
+      (cond (ltb carrierOf (s .sizes .threads)) (Carried carrierOf (scansAt (phaseOf s carrierOf)))
       (Handover handoverWith (guardOf (slotAt s handoverWith) o))))
 
   -- "the first position in scan order that holds it as a hazard, or none"

@@ -3,11 +3,11 @@ use crate::Explained;
 use crate::Reason;
 use crate::hazards::first_hazard;
 use crate::hazards::guard_of;
-use crate::places::carried_at;
 use crate::places::carrier_of;
 use crate::places::hand_with;
 use crate::places::handover_with;
 use crate::places::link_with;
+use entries::scan_position;
 use machine::State;
 ghost use mathlib.Core.Path.{_≡_};
 ghost use Rattle.reasons.specs.Reasons.{reasonOf, refusalOf, whyOf};
@@ -23,8 +23,8 @@ fn refusal(state: State, object: u8) -> u8
     if (object == 0) | (sizes.objects < object) {
         return 60;
     }
-    let k = object as usize - 1;
-    if state.free[k] {
+    let pool = state.pool;
+    if pool.is_free(object) {
         return 61;
     }
     0
@@ -53,7 +53,7 @@ fn reason_of(state: State, object: u8) -> Reason
         let phase = carrier.phase;
         return Reason::Carried {
             thread,
-            position: carried_at(phase),
+            position: scan_position(phase),
         };
     }
     let slots = state.slots;

@@ -10,7 +10,7 @@ ghost use lib.ListN.{getD};
 ghost use lib.Dec.{ltb, eqb};
 ghost use Rattle.entries.specs.Sizes.{positions};
 ghost use Rattle.entries.specs.Entries.{emptySlot};
-ghost use Rattle.reasons.specs.First.{first};
+ghost use Rattle.basics.specs.First.{first};
 ghost use Rattle.reasons.specs.Reasons.{guardOf};
 
 // "A slot's position is thread × H + slot"

@@ -1,5 +1,4 @@
 // Where an object is, place by place. Each function answers the first of its row that has the object, or how many there are if none has.
-use entries::Phase;
 use entries::Slot;
 use entries::Thread;
 use entries::carried;
@@ -9,8 +8,7 @@ ghost use lib.ListN.{getD};
 ghost use lib.Dec.{eqb};
 ghost use Rattle.entries.specs.Entries.{idleThread, emptySlot};
 ghost use Rattle.entries.specs.Phases.{carriedBy};
-ghost use Rattle.reasons.specs.First.{first};
-ghost use Rattle.reasons.specs.Reasons.{carriedAt};
+ghost use Rattle.basics.specs.First.{first};
 
 pub(crate) fn link_with(count: u8, links: [u8; 16], object: u8) -> u8
     requires { ⌜ count ≤ 16 ⌝ }
@@ -41,30 +39,6 @@ pub(crate) fn hand_with(count: u8, threads: [Thread; 8], object: u8) -> u8
         t += 1;
     }
     count
-}
-
-// The position at which a thread that carries an object is.
-pub(crate) fn carried_at(phase: Phase) -> u8
-    ensures { λ r. ⌜ r ≡ carriedAt phase ⌝ }
-{
-    match phase {
-        Phase::Idle => 0,
-        Phase::Loaded {
-            slot: _,
-            link: _,
-            object: _,
-        } => 0,
-        Phase::Published { slot: _, link: _ } => 0,
-        Phase::Draining { slot: _ } => 0,
-        Phase::Look {
-            object: _,
-            position,
-        } => position,
-        Phase::Swap {
-            object: _,
-            position,
-        } => position,
-    }
 }
 
 pub(crate) fn carrier_of(count: u8, threads: [Thread; 8], object: u8) -> u8

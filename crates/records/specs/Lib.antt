@@ -5,5 +5,5 @@ pub mod Rest
 pub mod Writing
 pub mod Numbers
 pub mod EitherKind
-pub mod Laws
+pub mod Lemmas
 pub mod Promise

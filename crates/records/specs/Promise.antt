@@ -1,6 +1,6 @@
--- What is promised of schedule records. Each proof is a name; the lemmas are in `Laws`.
+-- What is promised of schedule records. Each proof is a name; the lemmas are in `Lemmas`.
 use Prim.Native.Nat.{ℕ, _≤_}
-use mathlib.Core.Path.{_≡_, refl, sym, _∙_}
+use mathlib.Core.Path.{_≡_, refl}
 use mathlib.Core.List.{List, [], _∷_, _++_}
 use lib.ListN.{length, drop, replicate}
 use Rattle.records.specs.declared.SizesRecord.{SizesRecord}
@@ -8,6 +8,7 @@ use Rattle.records.specs.declared.StepRecord.{StepRecord}
 use Rattle.records.specs.declared.Read.{Read}
 use Rattle.records.specs.declared.Read.the-variants.{Sizes, Step}
 use Rattle.records.specs.declared.Written.{Written}
+use Rattle.basics.specs.Functions.{allowed-once}
 use Rattle.records.specs.Marks.{marked}
 use Rattle.records.specs.Bytes.{AllBytes, lowFirst, numberOf, stepBytes}
 use Rattle.records.specs.Reading.{stepAt, readOf}
@@ -15,8 +16,8 @@ use Rattle.records.specs.Rest.{restOf}
 use Rattle.records.specs.Writing.{answerOf, writtenOf}
 use Rattle.records.specs.Numbers.{numbersOf, numbersOfWritten}
 use Rattle.records.specs.EitherKind.{recordBytes, GoodRecord}
-use Rattle.records.specs.Laws.Back as back
-use Rattle.records.specs.Laws.Told as told
+use Rattle.records.specs.Lemmas.Back as back
+use Rattle.records.specs.Lemmas.Told as told
 
 -- ---- a record and its bytes
 
@@ -61,9 +62,7 @@ written-rest = back.written-rest
 
 -- ---- what a statement allows is one thing
 
--- Any two results that a contract of the form "result ≡ definition" allows are the same.
-pub allowed-once : {A B : Type 0} (f : A → B) (x : A) (r s : B) → r ≡ f x → s ≡ f x → r ≡ s
-allowed-once f x r s p q = p ∙ sym q
+-- Any two results that a contract of the form "result ≡ definition" allows are the same, by one law.
 
 pub read-once : (input : List ℕ) (r s : Read) → r ≡ readOf input → s ≡ readOf input → r ≡ s
 read-once = allowed-once readOf

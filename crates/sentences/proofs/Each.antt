@@ -1,4 +1,4 @@
--- Laws of the lines of a state's objects: the next object's line, and none after the last. Assumes nothing.
+-- Laws of the lines of a state's objects: the next object's line, and none after the last.
 use Prim.Native.Nat.{ℕ, suc, _+_, _-_, _≤_, _<_}
 use mathlib.Core.Path.{_≡_}
 use mathlib.Core.List.{[], _++_}

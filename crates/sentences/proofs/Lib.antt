@@ -1,4 +1,4 @@
--- Laws that several functions' proofs cite.
+-- Lemmas that several functions' proofs cite.
 pub mod Nothing
 pub mod Small
 pub mod Parts

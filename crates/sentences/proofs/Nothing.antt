@@ -1,4 +1,4 @@
--- Nothing written leaves a buffer as it is. Assumes nothing.
+-- Nothing written leaves a buffer as it is.
 use Prim.Native.Nat.{ℕ}
 use mathlib.Core.Path.{sym}
 use mathlib.Core.List.{List, [], append-nil}

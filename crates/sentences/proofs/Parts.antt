@@ -1,4 +1,4 @@
--- Laws of `filled`: the part that its first byte gives, and what comes after it. Assumes nothing.
+-- Laws of `filled`: the part that its first byte gives, and what comes after it.
 use Prim.Native.Nat.{ℕ, _+_, _<_}
 use mathlib.Core.Path.{_≡_}
 use mathlib.Core.List.{List, [], _∷_, _++_, append-nil}

@@ -1,4 +1,4 @@
--- The digits of numbers below 1,000, and up to three bytes stored one after the other. Assumes nothing.
+-- The digits of numbers below 1,000, and up to three bytes stored one after the other.
 use Prim.Native.Nat.{ℕ, _+_, _/_, _%_, _≤_, _<_}
 use mathlib.Core.Path.{_≡_}
 use mathlib.Core.List.{List, [], _∷_, _++_}

@@ -8,7 +8,7 @@ use Rattle.machine.specs.declared.State.{State}
 use Rattle.machine.specs.declared.Call.{Call}
 use Rattle.entries.specs.Sizes.{inRange}
 use Rattle.machine.specs.Count.{countOf}
-use Rattle.promise.specs.Run.{machine}
+use Rattle.promise.specs.Run.{state}
 use Rattle.lines.specs.Line.{Line}
 use Rattle.lines.specs.Run.{endLine, stopLine}
 use Rattle.sentences.specs.Ends.{End, ended, stopped}
@@ -28,4 +28,4 @@ pub record Reached (s : State) : Type 0 where
   pub sizes : Sizes
   pub good : inRange sizes ≡ true
   pub calls : List Call
-  pub same : s ≡ machine sizes calls
+  pub same : s ≡ state sizes calls

@@ -6,6 +6,6 @@ pub mod Ends
 pub mod Told
 pub mod Lent
 pub mod Claims
-pub mod Laws
+pub mod Lemmas
 pub mod Promise
 pub mod Worked

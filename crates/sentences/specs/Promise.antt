@@ -1,4 +1,4 @@
--- What is promised of the text beside the contract of `tell`. Each proof is a name; the lemmas are in `Laws`.
+-- What is promised of the text beside the contract of `tell`. Each proof is a name; the lemmas are in `Lemmas`.
 use Prim.Native.Nat.{ℕ, _+_, _*_, _<_}
 use mathlib.Core.Path.{_≡_}
 use mathlib.Core.List.{List}
@@ -9,10 +9,10 @@ use Rattle.sentences.specs.Sentence.{threadOf, slotOf}
 use Rattle.sentences.specs.Ends.{ended, endOf}
 use Rattle.sentences.specs.Told.{textOf}
 use Rattle.sentences.specs.Claims.{EndsAs, Reached}
-use Rattle.sentences.specs.Laws.Lasts as lasts
-use Rattle.sentences.specs.Laws.Reaches as reaches
-use Rattle.sentences.specs.Laws.Positions as positions
-use Rattle.sentences.specs.Laws.Enough as enough
+use Rattle.sentences.specs.Lemmas.Lasts as lasts
+use Rattle.sentences.specs.Lemmas.Reaches as reaches
+use Rattle.sentences.specs.Lemmas.Positions as positions
+use Rattle.sentences.specs.Lemmas.Enough as enough
 
 -- The state that the sentences are about is the one that the last line of the run counts, and where that line is `stop` there are none.
 pub ends-as-told : (input : List ℕ) → EndsAs (endOf input) (linesOf input)

@@ -4,7 +4,7 @@ use Prim.Native.Nat.{ℕ}
 use mathlib.Core.Path.{_≡_, refl}
 use mathlib.Core.List.{List, [], _∷_, _++_}
 use Rattle.lines.specs.Computing.{computing}
-use Rattle.reasons.specs.First as first
+use Rattle.basics.specs.First as first
 use Rattle.reasons.specs.Reasons as reasons
 use Rattle.sentences.specs.Words.{ascii, filled}
 use Rattle.sentences.specs.Sentence.{threadOf, slotOf, guardWords, reasonWords, hazardWords, lineOf}
@@ -40,5 +40,5 @@ said =
     ascii "object 2 is in link 0; no hazard\n"
 
 pub worked : textOf schedule ≡ said
-unfolding computing first.firstFrom reasons.guardOf reasons.carriedAt reasons.linkWith reasons.handWith reasons.carrierOf reasons.handoverWith reasons.reasonOf reasons.hazardAt reasons.hazardOf reasons.refusals reasons.refusalOf reasons.whyOf ascii filled threadOf slotOf guardWords reasonWords hazardWords lineOf isEnd lastOf endAt endFrom endStarted endSized endFirst endOf linesFrom linesOf textAt textOf schedule said
+unfolding computing first.firstFrom reasons.guardOf reasons.linkWith reasons.handWith reasons.carrierOf reasons.handoverWith reasons.reasonOf reasons.hazardAt reasons.hazardOf reasons.refusals reasons.refusalOf reasons.whyOf ascii filled threadOf slotOf guardWords reasonWords hazardWords lineOf isEnd lastOf endAt endFrom endStarted endSized endFirst endOf linesFrom linesOf textAt textOf schedule said
 worked = refl

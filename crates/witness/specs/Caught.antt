@@ -15,9 +15,10 @@ use Rattle.edges.specs.Runs.{call}
 use Rattle.edges.specs.Rules.{Rules, machineOf, goOnBy, doneBy}
 use Rattle.edges.specs.TrapRules.{handOverAndMoveOn, publishAndMark, lookBy, lastMet}
 use Rattle.edges.specs.Traps.{Trap, moving-on, marking-at-once, freeing-at-last, skipping-own}
-use Rattle.edges.specs.Laws.Computing.{computing}
-use Rattle.edges.specs.Laws.Quick.{quickly, slow-is-quick, quick-computes}
-use Rattle.promise.specs.Store.{nothing, put, says, next, storeSays}
+use Rattle.edges.specs.Lemmas.Computing.{computing}
+use Rattle.edges.specs.Lemmas.Quick.{quickly, slow-is-quick, quick-computes}
+use Rattle.basics.specs.Functions.{put}
+use Rattle.promise.specs.Store.{emptyStore, says, next, storeSays}
 use Rattle.promise.specs.History.{Machine, Event, historyBy}
 use Rattle.promise.specs.Reading.{noTakes, noted, recordOf, renamed}
 use Rattle.promise.specs.Listing.{atOnce, ending, listedOf, listing, machineSays}
@@ -32,7 +33,7 @@ eventsOf machine z calls = historyBy machine (freshOf z) calls
 -- what demand 3 says of every run of the machine: the store's answers are the machine's
 abbrev pub SameAnswers : Machine → Sizes → List Call → Type 0
 SameAnswers machine z calls =
-    storeSays (z .slots) nothing (listing (eventsOf machine z calls)) ≡ machineSays noTakes (eventsOf machine z calls)
+    storeSays (z .slots) emptyStore (listing (eventsOf machine z calls)) ≡ machineSays noTakes (eventsOf machine z calls)
 
 -- two lists of answers, compared number by number
 alike : List Numbers → List Numbers → Bool
@@ -63,7 +64,7 @@ rows = row moving-on 1 ∷ row marking-at-once 1 ∷ row freeing-at-last 0 ∷ r
 alikeOn : (Rules → Machine) → Row → Bool
 alikeOn machine r =
     let events = eventsOf (machine (r .trap .rules)) (r .trap .sizes) (andThen (r .taker) (r .trap)) in
-    alike (storeSays (r .trap .sizes .slots) nothing (listing events)) (machineSays noTakes events)
+    alike (storeSays (r .trap .sizes .slots) emptyStore (listing events)) (machineSays noTakes events)
 
 caught-quickly : map (alikeOn (λ rules. quickly (doneBy rules))) rows ≡ map (λ r. false) rows
 unfolding alikeOn rows alike moving-on marking-at-once freeing-at-last skipping-own goOnBy doneBy handOverAndMoveOn publishAndMark lookBy lastMet put says next storeSays historyBy noted recordOf renamed atOnce ending listedOf listing machineSays computing quick-computes

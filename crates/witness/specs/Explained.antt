@@ -8,11 +8,11 @@ use Rattle.machine.specs.Fresh.{freshOf}
 use Rattle.machine.specs.Parts.{withLink}
 use Rattle.machine.specs.Step.{doneOf, stepOf}
 use Rattle.edges.specs.Runs.{sizes, call, on}
-use Rattle.edges.specs.Laws.Computing.{computing}
-use Rattle.edges.specs.Laws.Quick.{quickly, step-is-quick, quick-computes}
+use Rattle.edges.specs.Lemmas.Computing.{computing}
+use Rattle.edges.specs.Lemmas.Quick.{quickly, step-is-quick, quick-computes}
 use Rattle.promise.specs.History.{Machine, stateBy}
-use Rattle.reasons.specs.First.{firstFrom}
-use Rattle.reasons.specs.Reasons.{guardOf, carriedAt, linkWith, handWith, carrierOf, handoverWith, reasonOf, hazardAt, hazardOf, refusals, refusalOf, whyOf}
+use Rattle.basics.specs.First.{firstFrom}
+use Rattle.reasons.specs.Reasons.{guardOf, linkWith, handWith, carrierOf, handoverWith, reasonOf, hazardAt, hazardOf, refusals, refusalOf, whyOf}
 use Rattle.reasons.specs.Numbers.{Numbers, guardNumber, reasonNumber, reasonA, reasonB, hazardNumber, hazardPosition, numbersOf}
 
 -- a row: the numbers that the definition gives, and those that are expected
@@ -103,7 +103,7 @@ abbrev pub AsExpected : Machine → Type 0
 AsExpected machine = map (λ (r : Row). r .computed) (rowsOf machine) ≡ map (λ (r : Row). r .expected) (rowsOf machine)
 
 quickly-explained : AsExpected (quickly doneOf)
-unfolding rowsOf computing quick-computes stateBy firstFrom guardOf carriedAt linkWith handWith carrierOf handoverWith reasonOf hazardAt hazardOf refusals refusalOf whyOf guardNumber reasonNumber reasonA reasonB hazardNumber hazardPosition numbersOf
+unfolding rowsOf computing quick-computes stateBy firstFrom guardOf linkWith handWith carrierOf handoverWith reasonOf hazardAt hazardOf refusals refusalOf whyOf guardNumber reasonNumber reasonA reasonB hazardNumber hazardPosition numbersOf
 quickly-explained = refl
 
 pub explained : AsExpected stepOf

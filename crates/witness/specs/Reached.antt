@@ -6,10 +6,10 @@ use Rattle.entries.specs.declared.Sizes.{Sizes}
 use Rattle.machine.specs.declared.Call.{Call}
 use Rattle.machine.specs.Fresh.{freshOf}
 use Rattle.machine.specs.Step.{doneOf}
-use Rattle.entries.specs.Entries.{howMany}
+use Rattle.basics.specs.Counts.{howMany}
 use Rattle.edges.specs.Runs.{call, on}
-use Rattle.edges.specs.Laws.Computing.{computing}
-use Rattle.edges.specs.Laws.Quick.{quickly, step-is-quick, quick-computes}
+use Rattle.edges.specs.Lemmas.Computing.{computing}
+use Rattle.edges.specs.Lemmas.Quick.{quickly, step-is-quick, quick-computes}
 use Rattle.promise.specs.History.{Machine, historyBy, isRetire, isFreed, retires, freed}
 use Rattle.promise.specs.Run.{events}
 

@@ -1,4 +1,4 @@
--- `drive::steps` is safe and ends: the loop stays within the input, and what is left of it falls by ten a turn. Assumes nothing.
+-- `drive::steps` is safe and ends: the loop stays within the input, and what is left of it falls by ten a turn.
 use Prim.Native.Nat.{_≤_, _-_}
 use native.Mathlib.Omega.{arith}
 use borrow.Author.Needs.{needs}

@@ -1,4 +1,4 @@
--- `kiosk::main` meets its contract: the part of the buffer that is written out is as long as `run` answered. Assumes nothing.
+-- `kiosk::main` meets its contract: the part of the buffer that is written out is as long as `run` answered.
 use mathlib.Core.Path.{sym}
 use lib.Seq.{length-take-le}
 use borrow.Author.Needs.{needs}

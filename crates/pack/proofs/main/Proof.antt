@@ -1,4 +1,4 @@
--- `pack::main` is safe: what was read and what was packed lie within their rooms. Assumes nothing.
+-- `pack::main` is safe: what was read and what was packed lie within their rooms.
 use Prim.Native.Nat.{_≤_}
 use mathlib.Core.Path.{sym}
 use native.Mathlib.Omega.{arith}

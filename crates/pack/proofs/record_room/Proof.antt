@@ -1,4 +1,4 @@
--- `pack::record_room` meets its contract: so many zeros are that many. Assumes nothing.
+-- `pack::record_room` meets its contract: so many zeros are that many.
 use mathlib.Core.Path.{sym}
 use Prim.Native.Nat.{ℕ}
 use lib.ListN.{length-replicate}

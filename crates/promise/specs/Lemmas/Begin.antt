@@ -1,5 +1,5 @@
 -- The fresh machine and the empty store satisfy the invariant.
-use Prim.Native.Nat.{ℕ, _-_, _<_}
+use Prim.Native.Nat.{ℕ, _<_}
 use native.Mathlib.Omega.{arith}
 use mathlib.Core.Path.{_≡_, refl, sym, ap, _∙_}
 use mathlib.Core.Bool.{true, false≢true}
@@ -9,14 +9,16 @@ use Rattle.entries.specs.declared.Thread.{Thread}
 use Rattle.entries.specs.declared.Sizes.{Sizes}
 use Rattle.entries.specs.Sizes.{inRange, positions}
 use Rattle.machine.specs.Parts.{slotAt}
-use Rattle.entries.specs.Entries.{idleThread, emptySlot, bit, howMany}
+use Rattle.basics.specs.Counts.{bit, howMany}
+use Rattle.entries.specs.Entries.{idleThread, emptySlot}
+use Rattle.pool.specs.Promise.{fresh-pool}
 use Rattle.entries.specs.Phases.{carriedBy}
-use Rattle.machine.specs.Count.{placesOf}
+use Rattle.machine.specs.Count.{fivePlaces}
 use Rattle.machine.specs.Fresh.{freshOf}
-use Rattle.laws.specs.Lemmas.Good.{bounds}
-use Rattle.laws.specs.Lemmas.Ranged.{Sound, to-sound}
-use Rattle.laws.specs.Lemmas.Starts.{fresh-sound, marks-on}
-use Rattle.promise.specs.Store.{nothing}
+use Rattle.entries.specs.Facts.{bounds}
+use Rattle.machine.specs.Sound.{Sound, to-sound}
+use Rattle.laws.specs.Promise.{fresh-is-sound}
+use Rattle.promise.specs.Store.{emptyStore}
 use Rattle.promise.specs.Reading.{noTakes, recordOf}
 use Rattle.promise.specs.Holdings.{waiting}
 use Rattle.promise.specs.Lemmas.Same.{Same, Live, record-none}
@@ -24,7 +26,7 @@ use Rattle.promise.specs.Lemmas.Invariant.{Invariant}
 
 module _ (z : Sizes) (h : inRange z ≡ true) where
   start-sound : Sound (freshOf z)
-  start-sound = to-sound (freshOf z) (fresh-sound z h)
+  start-sound = to-sound (freshOf z) (fresh-is-sound z h)
 
   no-mark : (p : ℕ) → p < positions z → (slotAt (freshOf z) p) .mark ≡ true → ⊥
   unfolding freshOf
@@ -33,14 +35,13 @@ module _ (z : Sizes) (h : inRange z ≡ true) where
       let there : getD (replicate 32 emptySlot) p emptySlot ≡ emptySlot = getD-replicate 32 p emptySlot emptySlot (omega arith) in
       false≢true (sym (ap (λ (x : Slot). x .mark) there) ∙ marked)
 
-  all-free : (o : ℕ) → Live (freshOf z) o → ⊥
+  all-free : (o : ℕ) → Live (z .objects) ((freshOf z) .pool) o → ⊥
   unfolding freshOf
   all-free o live =
-      let some = live .0 in
-      let most = live .1 in
-      false≢true (sym (live .2) ∙ marks-on (z .objects) (o - 1) (omega arith))
+      let b = bounds z (start-sound .ranged .sizes) in
+      false≢true (sym (live .2) ∙ fresh-pool (z .objects) (b .objects) .1 o (live .0) (live .1))
 
-  start-same : Same (freshOf z) noTakes nothing
+  start-same : Same (freshOf z) noTakes emptyStore
   unfolding freshOf
   start-same =
       let b = bounds z (start-sound .ranged .sizes) in
@@ -57,17 +58,20 @@ module _ (z : Sizes) (h : inRange z ≡ true) where
                   record-none noTakes);
               slots = λ p less marked. absurd (no-mark p less marked);
             };
-        tags = λ o live. absurd (all-free o live);
-        apart = λ o o′ live live′ e. absurd (all-free o live);
-        known = λ o live. absurd (all-free o live);
-        count = refl;
+        names =
+            record {
+              tagged = λ o live. absurd (all-free o live);
+              apart = λ o o′ live live′ e. absurd (all-free o live);
+              known = λ o live. absurd (all-free o live);
+              count = refl;
+            };
       }
 
-  pub start-invariant : Invariant (freshOf z) noTakes nothing
+  pub start-invariant : Invariant (freshOf z) noTakes emptyStore
   unfolding freshOf
   start-invariant =
       record { sound = start-sound; guarded = λ p less marked. absurd (no-mark p less marked); same = start-same }
 
 pub start-waiting : (z : Sizes) → waiting (freshOf z) ≡ 0
-unfolding freshOf placesOf howMany bit carriedBy
+unfolding freshOf fivePlaces howMany bit carriedBy
 start-waiting z = refl

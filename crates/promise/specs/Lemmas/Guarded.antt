@@ -1,170 +1,229 @@
--- The invariant that makes freeing safe: what a marked slot holds is not free, and if it has been retired it lies at or below that slot.
-use Prim.Native.Nat.{ℕ, _<_, _≤_}
+-- The invariant that makes freeing safe: what a marked slot holds is not free, and if it has been retired it lies at or below that slot. It is
+-- kept whichever way a call goes.
+use Prim.Native.Nat.{ℕ, suc, _<_, _≤_}
 use native.Mathlib.Omega.{arith}
-use mathlib.Core.Path.{_≡_, sym, ap, _∙_, subst}
-use mathlib.Core.Bool.{Bool, true, false}
+use mathlib.Core.Path.{_≡_, refl, sym, ap, _∙_, subst}
+use mathlib.Core.Bool.{Bool, true, false, false≢true}
+use lib.ListN.{length}
 use Rattle.machine.specs.declared.State.{State}
+use Rattle.machine.specs.declared.Call.{Call}
+use Rattle.machine.specs.declared.Outcome.{Outcome}
 use Rattle.entries.specs.declared.Slot.{Slot}
 use Rattle.entries.specs.declared.Thread.{Thread}
 use Rattle.entries.specs.declared.Phase.{Phase}
-use Rattle.entries.specs.declared.Phase.the-variants.{Idle, Loaded, Published, Draining, Look, Swap}
+use Rattle.pool.specs.declared.Pool.{Pool}
+use Rattle.basics.specs.Tests.{same-or-not}
+use Rattle.basics.specs.Lists.{at-set}
 use Rattle.entries.specs.Sizes.{positions}
-use Rattle.machine.specs.Parts.{slotAt, handOf, phaseOf, freeAt, withLink, withThread, withSlot, withObject}
-use Rattle.entries.specs.Phases.{carriedBy}
-use Rattle.machine.specs.Calls.{holding}
-use Rattle.machine.specs.GoOn.{become, leaving}
-use Rattle.laws.specs.Lemmas.Ranged.{Ranged}
-use Rattle.laws.specs.Lemmas.Good.{bounds, slot-facts}
-use Rattle.promise.specs.Lemmas.Reads.{same-or-not, thread-same, thread-other, slot-same, slot-other, handover-kept, hazard-kept, mark-kept, free-other}
+use Rattle.entries.specs.Entries.{thread, idleThread, emptySlot, withHazard, withHandover}
+use Rattle.entries.specs.Phases.{carriedBy, scansAt}
+use Rattle.pool.specs.Pool.{isFree}
+use Rattle.pool.specs.Promise.{taken-out, put-back}
+use Rattle.machine.specs.Parts.{linkAt, slotAt, handOf, phaseOf, freeAt, withLink, withThread, withSlot, withPool, become}
+use Rattle.machine.specs.Sound.{Sound, limits, thread-long, slot-long, link-holds, its-position}
+use Rattle.promise.specs.Guard.{Guard, Guarded}
+use Rattle.laws.specs.OnePlace.{link-not-free, link-not-handover, link-not-carried, carried-not-free}
+use Rattle.laws.specs.Ways.{own, Does, Way, refused, takes, begins, swaps, moves, reads, retires, clears, publishes, protects, finds-nothing, loads-again, finishes, drains, meets, passes, frees, leaves, displaces}
 
--- where a thread that carries an object stands in its scan
-unfoldable pub scanAt : Phase → ℕ
-scanAt Idle = 0
-scanAt (Loaded slot link object) = 0
-scanAt (Published slot link) = 0
-scanAt (Draining slot) = 0
-scanAt (Look object position) = position
-scanAt (Swap object position) = position
+-- what a phase carries is guarded from no position below its scan
+abbrev Reached : State → Phase → Type 0
+Reached s phase = (p : ℕ) → p < positions (s .sizes) → (slotAt s p) .mark ≡ true → carriedBy phase ≡ (slotAt s p) .hazard → scansAt phase ≤ p
 
--- object o is guarded from position p
-pub record Guard (s : State) (p o : ℕ) : Type 0 where
-  pub kept : freeAt s o ≡ false
-  pub handed : (q : ℕ) → q < positions (s .sizes) → (slotAt s q) .handover ≡ o → q ≤ p
-  pub carried : (t : ℕ) → t < s .sizes .threads → carriedBy (phaseOf s t) ≡ o → scanAt (phaseOf s t) ≤ p
-
-abbrev pub Guarded : State → Type 0
-Guarded s = (p : ℕ) → p < positions (s .sizes) → (slotAt s p) .mark ≡ true → Guard s p ((slotAt s p) .hazard)
-
--- a marked hazard is an object
-pub marked-object : (s : State) → Ranged s → (p : ℕ) → p < positions (s .sizes) → (slotAt s p) .mark ≡ true
-    → (0 < (slotAt s p) .hazard) × ((slotAt s p) .hazard ≤ s .sizes .objects)
-marked-object s h p less marked =
-    let b = bounds (s .sizes) (h .sizes) in
-    let facts = slot-facts (s .sizes) p (slotAt s p) less (h .slots p (omega arith)) in
-    let some = facts .marked marked in
-    (omega arith, facts .hazard)
-
-module _ (s : State) (h : Ranged s) (g : Guarded s) where
-  -- a thread changes its hand and phase
-  pub guarded-thread : (t hand : ℕ) (phase : Phase) → t < 8
-      → ((p : ℕ) → p < positions (s .sizes) → (slotAt s p) .mark ≡ true → carriedBy phase ≡ (slotAt s p) .hazard → scanAt phase ≤ p)
-      → Guarded (withThread s t hand phase)
-  guarded-thread t hand phase less scan p inside marked =
+-- one store after the other
+module _ (s : State) (g : Guarded s) where
+  guarded-thread : (t hand : ℕ) (phase : Phase) → t < length (s .threads) → Reached s phase → Guarded (withThread s t hand phase)
+  guarded-thread t hand phase long scan p inside marked =
       let old = g p inside marked in
       record {
+        some = old .some;
         kept = old .kept;
         handed = old .handed;
         carried =
-            λ u under.
-            same-or-not (carriedBy (phaseOf (withThread s t hand phase) u) ≡ (slotAt s p) .hazard → scanAt (phaseOf (withThread s t hand phase) u) ≤ p) u t
-            (λ e.
-            let there : phaseOf (withThread s t hand phase) u ≡ phase =
-            subst (λ (k : ℕ). phaseOf (withThread s t hand phase) k ≡ phase) (sym e)
-            (ap (λ (x : Thread). x .phase) (thread-same s (h .shape) t hand phase less))
-            in
-            rw there (scan p inside marked))
-            (λ ne.
-            let there : phaseOf (withThread s t hand phase) u ≡ phaseOf s u =
-            ap (λ (x : Thread). x .phase) (thread-other s (h .shape) t hand phase u ne)
-            in
-            rw there (old .carried u under));
+            at-set (λ (u : ℕ) (x : Thread). u < s .sizes .threads → carriedBy (x .phase) ≡ (slotAt s p) .hazard → scansAt (x .phase) ≤ p)
+            (s .threads) t (thread hand phase) idleThread long
+            (λ under. scan p inside marked)
+            (λ u ne. old .carried u);
       }
 
   -- links are not looked at
-  pub guarded-link : (i o : ℕ) → Guarded (withLink s i o)
+  guarded-link : (i o : ℕ) → Guarded (withLink s i o)
   guarded-link i o p inside marked =
       let old = g p inside marked in
-      record { kept = old .kept; handed = old .handed; carried = old .carried }
+      record { some = old .some; kept = old .kept; handed = old .handed; carried = old .carried }
 
-  -- the free mark and tag of an object that no marked slot holds
-  pub guarded-object : (o : ℕ) (free : Bool) (tag : ℕ) → 0 < o
+  -- another pool and tag for an object that no marked slot holds
+  guarded-pool : (pool : Pool) (o tag : ℕ) → ((x : ℕ) → (x ≡ o → ⊥) → isFree pool x ≡ freeAt s x)
       → ((p : ℕ) → p < positions (s .sizes) → (slotAt s p) .mark ≡ true → (slotAt s p) .hazard ≡ o → ⊥)
-      → Guarded (withObject s o free tag)
-  guarded-object o free tag some unheld p inside marked =
+      → Guarded (withPool s pool o tag)
+  guarded-pool pool o tag others unheld p inside marked =
       let old = g p inside marked in
-      let object = marked-object s h p inside marked in
       record {
-        kept = free-other s (h .shape) o free tag ((slotAt s p) .hazard) some (object .0) (unheld p inside marked) ∙ old .kept;
+        some = old .some;
+        kept = others ((slotAt s p) .hazard) (unheld p inside marked) ∙ old .kept;
         handed = old .handed;
         carried = old .carried;
       }
 
   -- another hazard and mark at p; where the mark is on, the new hazard is guarded from there
-  pub guarded-hazard : (p hazard : ℕ) (mark : Bool) → p < 32 → (mark ≡ true → Guard s p hazard)
-      → Guarded (withSlot s p (holding (slotAt s p) hazard mark))
-  guarded-hazard p hazard mark less new q inside marked =
-      same-or-not (Guard s′ q ((slotAt s′ q) .hazard)) q p
-      (λ e.
-      let there : slotAt s′ q ≡ slot′ = subst (λ (k : ℕ). slotAt s′ k ≡ slot′) (sym e) (slot-same s (h .shape) p slot′ less) in
-      let on : mark ≡ true = sym (ap (λ (x : Slot). x .mark) there) ∙ marked in
-      let hazards : (slotAt s′ q) .hazard ≡ hazard = ap (λ (x : Slot). x .hazard) there in
-      rw hazards (moved q hazard (rw e (new on))))
-      (λ ne.
-      let there : slotAt s′ q ≡ slotAt s q = slot-other s (h .shape) p slot′ q ne in
-      let on : (slotAt s q) .mark ≡ true = sym (ap (λ (x : Slot). x .mark) there) ∙ marked in
-      rw there (moved q ((slotAt s q) .hazard) (g q inside on)))
-    where
-      slot′ : Slot
-      slot′ = holding (slotAt s p) hazard mark
-
-      s′ : State
-      s′ = withSlot s p slot′
-
-      moved : (q o : ℕ) → Guard s q o → Guard s′ q o
-      moved q o old =
-          record {
-            kept = old .kept;
-            handed = λ j under e. old .handed j under (sym (handover-kept s (h .shape) p hazard mark j less) ∙ e);
-            carried = old .carried;
-          }
-
-  -- an object goes into the handover at p from the thread, and what stood there is carried on from p
-  pub guarded-exchange : (t p into out : ℕ) (phase : Phase) → t < s .sizes .threads → t < 8 → p < positions (s .sizes) → p < 32
-      → (slotAt s p) .handover ≡ out → (0 < into → (carriedBy (phaseOf s t) ≡ into) × (scanAt (phaseOf s t) ≡ p))
-      → carriedBy phase ≡ out → (0 < out → scanAt phase ≡ p)
-      → Guarded (become (withSlot s p (leaving (slotAt s p) into)) t phase)
-  guarded-exchange t p into out phase under eight inside less was from to at q inside′ marked =
-      let on : (slotAt s q) .mark ≡ true = sym (mark-kept s (h .shape) p into q less) ∙ marked in
-      let old = g q inside′ on in
-      let object = marked-object s h q inside′ on in
-      let same-hazard : (slotAt s′ q) .hazard ≡ (slotAt s q) .hazard = hazard-kept s (h .shape) p into q less in
+  guarded-hazard : (p hazard : ℕ) (mark : Bool) → p < length (s .slots) → (mark ≡ true → Guard s p hazard)
+      → Guarded (withSlot s p (withHazard (slotAt s p) hazard mark))
+  guarded-hazard p hazard mark long new q inside marked =
+      let old =
+      at-set (λ (i : ℕ) (x : Slot). i < positions (s .sizes) → x .mark ≡ true → Guard s i (x .hazard))
+      (s .slots) p (withHazard (slotAt s p) hazard mark) emptySlot long (λ under. new) (λ i ne. g i) q inside marked
+      in
       record {
-        kept = subst (λ (o : ℕ). freeAt s o ≡ false) (sym same-hazard) (old .kept);
+        some = old .some;
+        kept = old .kept;
         handed =
-            λ j under′ e.
-            same-or-not (j ≤ q) j p
-            (λ same.
-            let put : (slotAt s′ j) .handover ≡ into =
-            subst (λ (k : ℕ). (slotAt s′ k) .handover ≡ into) (sym same)
-            (ap (λ (x : Slot). x .handover) (slot-same s (h .shape) p (leaving (slotAt s p) into) less))
-            in
-            let held : into ≡ (slotAt s q) .hazard = sym put ∙ e ∙ same-hazard in
-            let source = from (omega arith) in
-            let below = old .carried t under (source .0 ∙ held) in
-            omega arith)
-            (λ ne.
-            old .handed j under′
-            (sym (ap (λ (x : Slot). x .handover) (slot-other s (h .shape) p (leaving (slotAt s p) into) j ne)) ∙
-            e ∙
-            same-hazard));
-        carried =
-            λ u under′ e.
-            same-or-not (scanAt (phaseOf s′ u) ≤ q) u t
-            (λ same.
-            let there : phaseOf s′ u ≡ phase =
-            subst (λ (k : ℕ). phaseOf s′ k ≡ phase) (sym same)
-            (ap (λ (x : Thread). x .phase) (thread-same s (h .shape) t (handOf s t) phase eight))
-            in
-            let held : out ≡ (slotAt s q) .hazard = sym to ∙ sym (ap carriedBy there) ∙ e ∙ same-hazard in
-            let below = old .handed p inside (was ∙ held) in
-            let scan = at (omega arith) in
-            rw there (omega arith))
-            (λ ne.
-            let there : phaseOf s′ u ≡ phaseOf s u =
-            ap (λ (x : Thread). x .phase) (thread-other s (h .shape) t (handOf s t) phase u ne)
-            in
-            rw there (old .carried u under′ (sym (ap carriedBy there) ∙ e ∙ same-hazard)));
+            at-set (λ (i : ℕ) (x : Slot). i < positions (s .sizes) → x .handover ≡ (slotAt (withSlot s p (withHazard (slotAt s p) hazard mark)) q) .hazard → i ≤ q)
+            (s .slots) p (withHazard (slotAt s p) hazard mark) emptySlot long (old .handed p) (λ i ne. old .handed i);
+        carried = old .carried;
       }
+
+  -- another handover at p, which no position below p guards
+  guarded-handover : (p into : ℕ) → p < length (s .slots)
+      → ((q : ℕ) → q < positions (s .sizes) → (slotAt s q) .mark ≡ true → into ≡ (slotAt s q) .hazard → p ≤ q)
+      → Guarded (withSlot s p (withHandover (slotAt s p) into))
+  guarded-handover p into long scan q inside marked =
+      let old =
+      at-set (λ (i : ℕ) (x : Slot). i < positions (s .sizes) → x .mark ≡ true → Guard s i (x .hazard))
+      (s .slots) p (withHandover (slotAt s p) into) emptySlot long (g p) (λ i ne. g i) q inside marked
+      in
+      let source =
+      at-set (λ (i : ℕ) (x : Slot). i < positions (s .sizes) → x .mark ≡ true → into ≡ x .hazard → p ≤ i)
+      (s .slots) p (withHandover (slotAt s p) into) emptySlot long (scan p) (λ i ne. scan i) q inside marked
+      in
+      record {
+        some = old .some;
+        kept = old .kept;
+        handed =
+            at-set (λ (i : ℕ) (x : Slot). i < positions (s .sizes) → x .handover ≡ (slotAt (withSlot s p (withHandover (slotAt s p) into)) q) .hazard → i ≤ q)
+            (s .slots) p (withHandover (slotAt s p) into) emptySlot long (λ under. source) (λ i ne. old .handed i);
+        carried = old .carried;
+      }
+
+module _ (s : State) (c : Call) (h : Sound s) (g : Guarded s) where
+  abbrev t : ℕ
+  t = c .thread
+
+  -- a phase that carries nothing, and one that the thread was in
+  nothing-carried : (phase : Phase) → carriedBy phase ≡ 0 → Reached s phase
+  nothing-carried phase none p inside marked e = let some = (g p inside marked) .some in absurd (omega arith)
+
+  same-phase : t < s .sizes .threads → Reached s (phaseOf s t)
+  same-phase under p inside marked e = (g p inside marked) .carried t under e
+
+  -- the thread alone
+  thread-guarded : {n : ℕ} → Does s c n → (hand : ℕ) (phase : Phase) → Reached s phase → Guarded (withThread s t hand phase)
+  thread-guarded d hand phase scan = guarded-thread s g t hand phase (thread-long s (h .ranged) t (d .thread)) scan
+
+  empty-guarded : {n : ℕ} → Does s c n → (hand : ℕ) (phase : Phase) → carriedBy phase ≡ 0 → Guarded (withThread s t hand phase)
+  empty-guarded d hand phase none = thread-guarded d hand phase (nothing-carried phase none)
+
+  -- a hazard that is not marked
+  unmarked-guarded : {n : ℕ} → Does s c n → (p hazard : ℕ) (phase : Phase) → p < positions (s .sizes) → carriedBy phase ≡ 0
+      → Guarded (withThread (withSlot s p (withHazard (slotAt s p) hazard false)) t (handOf s t) phase)
+  unmarked-guarded d p hazard phase inside none =
+      let mid = guarded-hazard s g p hazard false (slot-long s (h .ranged) p inside) (λ m. absurd (false≢true m)) in
+      guarded-thread (withSlot s p (withHazard (slotAt s p) hazard false)) mid t (handOf s t) phase (thread-long s (h .ranged) t (d .thread))
+      (λ q under marked e. let some = (mid q under marked) .some in absurd (omega arith))
+
+  -- what goes into the handover at p was carried to p, and what comes out is carried on from p
+  exchange-guarded : {n : ℕ} → Does s c n → (p into : ℕ) (phase : Phase) → p < positions (s .sizes)
+      → ((q : ℕ) → q < positions (s .sizes) → (slotAt s q) .mark ≡ true → into ≡ (slotAt s q) .hazard → p ≤ q)
+      → (0 < carriedBy phase → ((slotAt s p) .handover ≡ carriedBy phase) × (scansAt phase ≡ p))
+      → Guarded (withThread (withSlot s p (withHandover (slotAt s p) into)) t (handOf s t) phase)
+  exchange-guarded d p into phase inside scan out =
+      let mid = guarded-handover s g p into (slot-long s (h .ranged) p inside) scan in
+      guarded-thread (withSlot s p (withHandover (slotAt s p) into)) mid t (handOf s t) phase (thread-long s (h .ranged) t (d .thread))
+      (at-set (λ (q : ℕ) (x : Slot). q < positions (s .sizes) → x .mark ≡ true → carriedBy phase ≡ x .hazard → scansAt phase ≤ q)
+      (s .slots) p (withHandover (slotAt s p) into) emptySlot (slot-long s (h .ranged) p inside) (from p) (λ q ne. from q))
     where
-      s′ : State
-      s′ = become (withSlot s p (leaving (slotAt s p) into)) t phase
+      from : (q : ℕ) → q < positions (s .sizes) → (slotAt s q) .mark ≡ true → carriedBy phase ≡ (slotAt s q) .hazard → scansAt phase ≤ q
+      from q under marked e =
+          let old = g q under marked in
+          let some = old .some in
+          let there = out (omega arith) in
+          let below = old .handed p inside (there .0 ∙ e) in
+          let at = there .1 in
+          omega arith
+
+  -- an object that the thread carries to q is guarded from no position below q
+  carried-to : {n : ℕ} → Does s c n → {o q : ℕ} → carriedBy (phaseOf s t) ≡ o → scansAt (phaseOf s t) ≡ q
+      → (p : ℕ) → p < positions (s .sizes) → (slotAt s p) .mark ≡ true → o ≡ (slotAt s p) .hazard → q ≤ p
+  carried-to d carries at p inside marked e = let below = (g p inside marked) .carried t (d .thread) (carries ∙ e) in omega arith
+
+  -- an object in a link is guarded from anywhere, since it was not retired
+  link-guarded : (link o p : ℕ) → link < s .sizes .links → linkAt s link ≡ o → 0 < o → o ≤ s .sizes .objects → Guard s p o
+  link-guarded link o p inside there some most =
+      record {
+        some = some;
+        kept = link-not-free s h o some most link inside there;
+        handed = λ q under e. absurd (link-not-handover s h o some most link q inside under there e);
+        carried = λ u under e. absurd (link-not-carried s h o some most link u inside under there e);
+      }
+
+  pub guarded-kept : {o : Outcome} → Way s c o → Guarded (o .state)
+  unfolding carriedBy scansAt
+  guarded-kept (refused first) = g
+  guarded-kept (takes {o = o} d empty next free) =
+      let out = taken-out (s .sizes .objects) (s .pool) ((limits s (h .ranged)) .objects) (h .ranged .pool) o free in
+      let mid =
+      guarded-pool s g _ o (c .tag) (out .others)
+      (λ p inside marked e. false≢true (sym ((g p inside marked) .kept) ∙ rw e free))
+      in
+      guarded-thread _ mid t o (phaseOf s t) (thread-long s (h .ranged) t (d .thread)) (same-phase (d .thread))
+  guarded-kept (begins d idle slot link read) = empty-guarded d _ _ refl
+  guarded-kept (swaps {o = o} d link protected read same) =
+      guarded-thread _ (guarded-link s g (c .link) (handOf s t)) t o (phaseOf s t) (thread-long s (h .ranged) t (d .thread)) (same-phase (d .thread))
+  guarded-kept (moves d link protected other) = g
+  guarded-kept (reads d inside marked) = g
+  guarded-kept (retires d idle full some) = thread-guarded d 0 _ (λ p inside marked e. omega arith)
+  guarded-kept (clears d idle slot) = unmarked-guarded d _ 0 _ (its-position s (h .ranged) t (c .slot) (d .thread) slot) refl
+  guarded-kept (publishes {slot = slot} {o = o} d was inside inside′ most) =
+      unmarked-guarded d _ o _ (its-position s (h .ranged) t slot (d .thread) inside) refl
+  guarded-kept (protects {slot = slot} {link = link} {o = o} d was inside inside′ read same some) =
+      let p = own s c slot in
+      let at = its-position s (h .ranged) t slot (d .thread) inside in
+      let most : o ≤ s .sizes .objects = rw (sym read) (link-holds s (h .ranged) link inside′) in
+      let guard : Guard s p ((slotAt s p) .hazard) = subst (Guard s p) same (link-guarded link o p inside′ read some most) in
+      let mid = guarded-hazard s g p ((slotAt s p) .hazard) true (slot-long s (h .ranged) p at) (λ m. guard) in
+      guarded-thread _ mid t (handOf s t) _ (thread-long s (h .ranged) t (d .thread)) (λ q under marked e. let z = (mid q under marked) .some in absurd (omega arith))
+  guarded-kept (finds-nothing d was inside inside′ read none) = empty-guarded d _ _ refl
+  guarded-kept (loads-again d was inside inside′ read other) = empty-guarded d _ _ refl
+  guarded-kept (finishes p d carries inside empty) =
+      exchange-guarded d p 0 _ inside
+      (λ q under marked e. let some = (g q under marked) .some in absurd (omega arith))
+      (λ some. absurd (omega arith))
+  guarded-kept (drains p next d carries inside full scans) =
+      exchange-guarded d p 0 next inside
+      (λ q under marked e. let some = (g q under marked) .some in absurd (omega arith))
+      (λ some. (full ∙ sym (scans .carries), scans .at))
+  guarded-kept (meets next d was inside match scans) =
+      thread-guarded d _ next
+      (λ p under marked e.
+      let below = carried-to d (was .carries) (was .at) p under marked (sym (scans .carries) ∙ e) in
+      let at = scans .at in
+      omega arith)
+  guarded-kept (passes {o = o} {q = q} next d was inside other scans) =
+      thread-guarded d _ next
+      (λ p under marked e.
+      let held : o ≡ (slotAt s p) .hazard = sym (scans .carries) ∙ e in
+      let below = carried-to d (was .carries) (was .at) p under marked held in
+      let at = scans .at in
+      same-or-not (scansAt next ≤ p) q p
+      (λ same. absurd (other (subst (λ (k : ℕ). (slotAt s k) .hazard ≡ o) (sym same) (sym held))))
+      (λ ne. omega arith))
+  guarded-kept (frees {o = o} {q = q} next d was past ended fine) =
+      let taken = carried-not-free s h o (was .some) (was .most) t (d .thread) (was .carries) in
+      let back = put-back (s .sizes .objects) (s .pool) ((limits s (h .ranged)) .objects) (h .ranged .pool) o (was .some) (was .most) taken in
+      let mid =
+      guarded-pool s g _ o 0 (back .others)
+      (λ p inside marked e. let below = carried-to d (was .carries) (was .at) p inside marked (sym e) in omega arith)
+      in
+      guarded-thread _ mid t (handOf s t) next (thread-long s (h .ranged) t (d .thread)) (nothing-carried next ended)
+  guarded-kept (leaves {o = o} {q = q} next d was inside empty ended fine) =
+      exchange-guarded d q o next inside (carried-to d (was .carries) (was .at)) (λ some. absurd (omega arith))
+  guarded-kept (displaces {o = o} {q = q} next d was inside full scans) =
+      exchange-guarded d q o next inside (carried-to d (was .carries) (was .at)) (λ some. (full ∙ sym (scans .carries), scans .at))

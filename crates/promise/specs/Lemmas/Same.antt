@@ -4,40 +4,44 @@ use Prim.Native.Nat.{ℕ, zero, suc, _-_, _<_, _≤_}
 use native.Mathlib.Omega.{arith}
 use mathlib.Core.Path.{_≡_, refl, sym, ap, _∙_, subst}
 use mathlib.Core.Bool.{Bool, true, false, false≢true}
-use lib.ListN.{length}
+use mathlib.Core.List.{List}
+use lib.ListN.{length, getD, set}
+use lib.Seq.{getD-set-other}
 use lib.Dec.{eqb}
 use borrow.Author.Tests.{eq-eqb, ne-eqb}
 use Rattle.machine.specs.declared.State.{State}
 use Rattle.entries.specs.declared.Slot.{Slot}
 use Rattle.entries.specs.declared.Thread.{Thread}
 use Rattle.entries.specs.declared.Phase.{Phase}
-use Rattle.machine.specs.Parts.{linkAt, slotAt, handOf, freeAt, tagOf, withLink, withThread, withSlot, withObject}
-use Rattle.machine.specs.Calls.{holding}
-use Rattle.machine.specs.GoOn.{leaving}
-use Rattle.laws.specs.Lemmas.Ranged.{Shape}
-use Rattle.promise.specs.Store.{Store, put, tagOfRecord}
+use Rattle.pool.specs.declared.Pool.{Pool}
+use Rattle.basics.specs.Tests.{same-or-not}
+use Rattle.basics.specs.Lists.{at-set}
+use Rattle.entries.specs.Sizes.{positions}
+use Rattle.entries.specs.Entries.{thread, idleThread, emptySlot, withHazard, withHandover}
+use Rattle.pool.specs.Pool.{isFree}
+use Rattle.machine.specs.Parts.{linkAt, slotAt, withLink, withThread, withSlot, withPool}
+use Rattle.promise.specs.Store.{Store}
 use Rattle.promise.specs.Reading.{Reading, recordOf}
 use Rattle.promise.specs.Holdings.{SameHoldings}
-use Rattle.promise.specs.Lemmas.Reads.{same-or-not, link-same, link-other, thread-same, thread-other, slot-same, slot-other, hazard-kept, mark-kept, free-other, free-same, tag-other}
 
-pub put-same : (f : ℕ → ℕ) (i v : ℕ) → put f i v i ≡ v
-unfolding put
-put-same f i v = rw (eq-eqb i i refl)
+-- an object of n that is not free
+abbrev pub Live : ℕ → Pool → ℕ → Type 0
+Live n pool o = (0 < o) × (o ≤ n) × (isFree pool o ≡ false)
 
-pub put-other : (f : ℕ → ℕ) (i v j : ℕ) → (j ≡ i → ⊥) → put f i v j ≡ f j
-unfolding put
-put-other f i v j ne = rw (ne-eqb j i ne)
+-- 0, or an object that is not free
+abbrev pub Held : ℕ → Pool → ℕ → Type 0
+Held n pool x = 0 < x → Live n pool x
 
--- an object that is not free
-abbrev pub Live : State → ℕ → Type 0
-Live s o = (0 < o) × (o ≤ s .sizes .objects) × (freeAt s o ≡ false)
+-- what the reading says of every object that is not free: `tags` are the objects', `records` the records'
+pub record Named (n : ℕ) (pool : Pool) (tags : List ℕ) (r : Reading) (records : List ℕ) : Type 0 where
+  pub tagged : (o : ℕ) → Live n pool o → getD records (r .last o - 1) 0 ≡ getD tags (o - 1) 0
+  pub apart : (o o′ : ℕ) → Live n pool o → Live n pool o′ → r .last o ≡ r .last o′ → o ≡ o′
+  pub known : (o : ℕ) → Live n pool o → (0 < r .last o) × (r .last o ≤ r .takes)
+  pub count : length records ≡ r .takes
 
 pub record Same (s : State) (r : Reading) (store : Store) : Type 0 where
   pub holdings : SameHoldings s r store
-  pub tags : (o : ℕ) → Live s o → tagOfRecord store (r .last o) ≡ tagOf s o
-  pub apart : (o o′ : ℕ) → Live s o → Live s o′ → r .last o ≡ r .last o′ → o ≡ o′
-  pub known : (o : ℕ) → Live s o → (0 < r .last o) × (r .last o ≤ r .takes)
-  pub count : length (store .tags) ≡ r .takes
+  pub names : Named (s .sizes .objects) (s .pool) (s .tags) r (store .tags)
 
 pub record-none : (r : Reading) → recordOf r 0 ≡ 0
 unfolding recordOf
@@ -47,18 +51,14 @@ pub record-some : (r : Reading) (o : ℕ) → 0 < o → recordOf r o ≡ r .last
 unfolding recordOf
 record-some r o some = rw (ne-eqb o 0 (λ e. omega arith))
 
--- 0, or an object that is not free
-abbrev pub Held : State → ℕ → Type 0
-Held s x = 0 < x → Live s x
-
 -- equal objects are equal records, and different ones different
-module _ (s : State) (r : Reading) (store : Store) (m : Same s r store) where
-  some-record : (x : ℕ) → Held s x → 0 < x → 0 < recordOf r x
+module _ {n : ℕ} {pool : Pool} {tags : List ℕ} {r : Reading} {records : List ℕ} (m : Named n pool tags r records) where
+  some-record : (x : ℕ) → Held n pool x → 0 < x → 0 < recordOf r x
   some-record x live some =
       let l = m .known x (live some) in
       rw (record-some r x some) (l .0)
 
-  same-compare : (x y : ℕ) → Held s x → Held s y → recordOf r x ≡ recordOf r y → x ≡ y
+  same-compare : (x y : ℕ) → Held n pool x → Held n pool y → recordOf r x ≡ recordOf r y → x ≡ y
   same-compare zero zero hx hy e = refl
   same-compare zero (suc y) hx hy e =
       let some = some-record (suc y) hy (omega arith) in
@@ -72,137 +72,79 @@ module _ (s : State) (r : Reading) (store : Store) (m : Same s r store) where
       m .apart (suc x) (suc y) (hx (omega arith)) (hy (omega arith))
       (sym (record-some r (suc x) (omega arith)) ∙ e ∙ record-some r (suc y) (omega arith))
 
-  pub compare-records : (x y : ℕ) → Held s x → Held s y → eqb (recordOf r x) (recordOf r y) ≡ eqb x y
+  pub compare-records : (x y : ℕ) → Held n pool x → Held n pool y → eqb (recordOf r x) (recordOf r y) ≡ eqb x y
   compare-records x y hx hy =
-      same-or-not _ x y
+      same-or-not (eqb (recordOf r x) (recordOf r y) ≡ eqb x y) x y
       (λ e. eq-eqb _ _ (ap (recordOf r) e) ∙ sym (eq-eqb x y e))
       (λ ne. ne-eqb _ _ (λ e. ne (same-compare x y hx hy e)) ∙ sym (ne-eqb x y ne))
 
-  pub compare-none : (x : ℕ) → Held s x → eqb (recordOf r x) 0 ≡ eqb x 0
+  pub compare-none : (x : ℕ) → Held n pool x → eqb (recordOf r x) 0 ≡ eqb x 0
   compare-none x hx =
       let none = record-none r in
       ap (λ (k : ℕ). eqb (recordOf r x) k) (sym none) ∙ compare-records x 0 hx (λ less. absurd (omega arith))
 
-module _ (s : State) (h : Shape s) (r : Reading) (store : Store) (m : Same s r store) where
-  -- a hand and a phase change
-  pub same-hand : (t hand : ℕ) (phase : Phase) (hands : ℕ → ℕ) → t < 8 → ((u : ℕ) → (u ≡ t → ⊥) → hands u ≡ store .hands u)
-      → hands t ≡ recordOf r hand
-      → Same (withThread s t hand phase) r (record { links = store .links; hands = hands; slots = store .slots; tags = store .tags })
-  same-hand t hand phase hands less others this =
-      record {
-        holdings =
-            record {
-              links = m .holdings .links;
-              hands =
-                  λ u under.
-                  same-or-not (hands u ≡ recordOf r (handOf (withThread s t hand phase) u)) u t
-                  (λ e.
-                  subst (λ (k : ℕ). hands k ≡ recordOf r (handOf (withThread s t hand phase) k)) (sym e)
-                  (this ∙ ap (λ (x : Thread). recordOf r (x .hand)) (sym (thread-same s h t hand phase less))))
-                  (λ ne.
-                  others u ne ∙
-                  m .holdings .hands u under ∙
-                  ap (λ (x : Thread). recordOf r (x .hand)) (sym (thread-other s h t hand phase u ne)));
-              slots = m .holdings .slots;
-            };
-        tags = m .tags;
-        apart = m .apart;
-        known = m .known;
-        count = m .count;
-      }
-
-  pub same-link : (i o : ℕ) (links : ℕ → ℕ) → i < 16 → ((j : ℕ) → (j ≡ i → ⊥) → links j ≡ store .links j) → links i ≡ recordOf r o
-      → Same (withLink s i o) r (record { links = links; hands = store .hands; slots = store .slots; tags = store .tags })
-  same-link i o links less others this =
-      record {
-        holdings =
-            record {
-              links =
-                  λ j under.
-                  same-or-not (links j ≡ recordOf r (linkAt (withLink s i o) j)) j i
-                  (λ e.
-                  subst (λ (k : ℕ). links k ≡ recordOf r (linkAt (withLink s i o) k)) (sym e)
-                  (this ∙ ap (recordOf r) (sym (link-same s h i o less))))
-                  (λ ne. others j ne ∙ m .holdings .links j under ∙ ap (recordOf r) (sym (link-other s h i o j ne)));
-              hands = m .holdings .hands;
-              slots = m .holdings .slots;
-            };
-        tags = m .tags;
-        apart = m .apart;
-        known = m .known;
-        count = m .count;
-      }
-
-  -- a hazard and a mark change; where the mark is on, the store's slot holds the record
-  pub same-slot : (p hazard : ℕ) (mark : Bool) (slots : ℕ → ℕ) → p < 32 → ((q : ℕ) → (q ≡ p → ⊥) → slots q ≡ store .slots q)
-      → (mark ≡ true → slots p ≡ recordOf r hazard)
-      → Same (withSlot s p (holding (slotAt s p) hazard mark)) r
-      (record { links = store .links; hands = store .hands; slots = slots; tags = store .tags })
-  same-slot p hazard mark slots less others this =
-      record {
-        holdings =
-            record {
-              links = m .holdings .links;
-              hands = m .holdings .hands;
-              slots =
-                  λ q under marked.
-                  same-or-not (slots q ≡ recordOf r ((slotAt s′ q) .hazard)) q p
-                  (λ e.
-                  let there : slotAt s′ q ≡ slot′ = subst (λ (k : ℕ). slotAt s′ k ≡ slot′) (sym e) (slot-same s h p slot′ less) in
-                  let on : mark ≡ true = sym (ap (λ (x : Slot). x .mark) there) ∙ marked in
-                  ap slots e ∙ this on ∙ ap (λ (x : Slot). recordOf r (x .hazard)) (sym there))
-                  (λ ne.
-                  let there : slotAt s′ q ≡ slotAt s q = slot-other s h p slot′ q ne in
-                  let on : (slotAt s q) .mark ≡ true = sym (ap (λ (x : Slot). x .mark) there) ∙ marked in
-                  others q ne ∙ m .holdings .slots q under on ∙ ap (λ (x : Slot). recordOf r (x .hazard)) (sym there));
-            };
-        tags = m .tags;
-        apart = m .apart;
-        known = m .known;
-        count = m .count;
-      }
-    where
-      slot′ : Slot
-      slot′ = holding (slotAt s p) hazard mark
-
-      s′ : State
-      s′ = withSlot s p slot′
-
-  -- a handover changes: no link, hand or protected slot does
-  pub same-leaving : (p into : ℕ) → p < 32 → Same (withSlot s p (leaving (slotAt s p) into)) r store
-  same-leaving p into less =
-      record {
-        holdings =
-            record {
-              links = m .holdings .links;
-              hands = m .holdings .hands;
-              slots =
-                  λ q under marked.
-                  let on : (slotAt s q) .mark ≡ true = sym (mark-kept s h p into q less) ∙ marked in
-                  m .holdings .slots q under on ∙ ap (recordOf r) (sym (hazard-kept s h p into q less));
-            };
-        tags = m .tags;
-        apart = m .apart;
-        known = m .known;
-        count = m .count;
-      }
-
   -- an object becomes free: there is one fewer to speak of
-  pub same-freed : (o : ℕ) → 0 < o → o - 1 < 240 → Same (withObject s o true 0) r store
-  same-freed o some less =
+  pub named-freed : (pool′ : Pool) (o : ℕ) → 0 < o → isFree pool′ o ≡ true → ((x : ℕ) → (x ≡ o → ⊥) → isFree pool′ x ≡ isFree pool x)
+      → Named n pool′ (set tags (o - 1) 0) r records
+  named-freed pool′ o some free others =
       record {
-        holdings = record { links = m .holdings .links; hands = m .holdings .hands; slots = m .holdings .slots };
-        tags = λ x live. m .tags x (before x live) ∙ sym (tag-other s h o true 0 x some (live .0) (other x live));
+        tagged = λ x live. m .tagged x (before x live) ∙ sym (getD-set-other tags (o - 1) (x - 1) 0 0 (λ e. apart-from x live e));
         apart = λ x y live live′. m .apart x y (before x live) (before y live′);
         known = λ x live. m .known x (before x live);
         count = m .count;
       }
     where
-      other : (x : ℕ) → Live (withObject s o true 0) x → x ≡ o → ⊥
-      other x live e =
-          false≢true
-          (sym (live .2) ∙
-          subst (λ (k : ℕ). freeAt (withObject s o true 0) k ≡ true) (sym e) (free-same s h o true 0 less))
+      other : (x : ℕ) → Live n pool′ x → x ≡ o → ⊥
+      other x live e = false≢true (sym (live .2) ∙ rw e free)
 
-      before : (x : ℕ) → Live (withObject s o true 0) x → Live s x
-      before x live = (live .0, live .1, sym (free-other s h o true 0 x some (live .0) (other x live)) ∙ live .2)
+      before : (x : ℕ) → Live n pool′ x → Live n pool x
+      before x live = (live .0, live .1, sym (others x (other x live)) ∙ live .2)
+
+      apart-from : (x : ℕ) → Live n pool′ x → x - 1 ≡ o - 1 → ⊥
+      apart-from x live e = let ne = other x live in let low = live .0 in ne (omega arith)
+
+-- the holdings after one store
+module _ (s : State) (r : Reading) (store : Store) (m : SameHoldings s r store) where
+  pub same-hand : (t hand : ℕ) (phase : Phase) (hands : ℕ → ℕ) → t < length (s .threads)
+      → ((u : ℕ) → (u ≡ t → ⊥) → hands u ≡ store .hands u) → hands t ≡ recordOf r hand
+      → SameHoldings (withThread s t hand phase) r (record { links = store .links; hands = hands; slots = store .slots; tags = store .tags })
+  same-hand t hand phase hands long others this =
+      record {
+        links = m .links;
+        hands =
+            at-set (λ (u : ℕ) (x : Thread). u < s .sizes .threads → hands u ≡ recordOf r (x .hand)) (s .threads) t (thread hand phase) idleThread long
+            (λ under. this)
+            (λ u ne under. others u ne ∙ m .hands u under);
+        slots = m .slots;
+      }
+
+  pub same-link : (i o : ℕ) (links : ℕ → ℕ) → i < length (s .links) → ((j : ℕ) → (j ≡ i → ⊥) → links j ≡ store .links j)
+      → links i ≡ recordOf r o
+      → SameHoldings (withLink s i o) r (record { links = links; hands = store .hands; slots = store .slots; tags = store .tags })
+  same-link i o links long others this =
+      record {
+        links =
+            at-set (λ (j : ℕ) (x : ℕ). j < s .sizes .links → links j ≡ recordOf r x) (s .links) i o 0 long
+            (λ under. this)
+            (λ j ne under. others j ne ∙ m .links j under);
+        hands = m .hands;
+        slots = m .slots;
+      }
+
+  -- a slot changes; where its mark is on, the store's slot holds the record
+  pub same-slot : (p : ℕ) (slot : Slot) (slots : ℕ → ℕ) → p < length (s .slots) → ((q : ℕ) → (q ≡ p → ⊥) → slots q ≡ store .slots q)
+      → (p < positions (s .sizes) → slot .mark ≡ true → slots p ≡ recordOf r (slot .hazard))
+      → SameHoldings (withSlot s p slot) r (record { links = store .links; hands = store .hands; slots = slots; tags = store .tags })
+  same-slot p slot slots long others this =
+      record {
+        links = m .links;
+        hands = m .hands;
+        slots =
+            at-set (λ (q : ℕ) (x : Slot). q < positions (s .sizes) → x .mark ≡ true → slots q ≡ recordOf r (x .hazard)) (s .slots) p slot emptySlot long
+            this
+            (λ q ne under marked. others q ne ∙ m .slots q under marked);
+      }
+
+  -- the pool is not looked at
+  pub same-pool : (pool : Pool) (o tag : ℕ) → SameHoldings (withPool s pool o tag) r store
+  same-pool pool o tag = record { links = m .links; hands = m .hands; slots = m .slots }

@@ -1,127 +1,262 @@
--- One call of any kind, refused or not, matches what the store does.
-use Prim.Native.Nat.{ℕ, _≤_}
+-- Whichever way a call goes, it matches what the store does: the listed call whole, or nothing.
+use Prim.Native.Nat.{ℕ, suc, _-_, _<_, _≤_}
 use native.Mathlib.Omega.{arith}
-use mathlib.Core.Path.{_≡_, refl, sym, subst}
-use mathlib.Core.Bool.{Bool, true, false, cond, _&&_}
-use mathlib.Core.Logic.{⊎-elim}
-use mathlib.Core.List.{List, [], _∷_}
+use mathlib.Core.Path.{_≡_, refl, sym, ap, _∙_, subst}
+use mathlib.Core.Bool.{Bool, true, false, cond, _&&_, false≢true}
+use mathlib.Core.List.{[]}
+use lib.ListN.{length}
 use lib.Dec.{eqb, leb}
-use borrow.Author.Tests.{eqb-true, eqb-false, ne-eqb, lt-leb, leb-true}
+use borrow.Author.Tests.{eq-eqb, ne-eqb, lt-leb}
 use Rattle.machine.specs.declared.State.{State}
 use Rattle.machine.specs.declared.Call.{Call}
+use Rattle.machine.specs.declared.Outcome.{Outcome}
+use Rattle.entries.specs.declared.Slot.{Slot}
+use Rattle.entries.specs.declared.Phase.{Phase}
+use Rattle.basics.specs.Tests.{same-or-not}
+use Rattle.basics.specs.Functions.{put, put-same, put-other}
+use Rattle.basics.specs.Rows.{first-from}
+use Rattle.entries.specs.Sizes.{positions}
+use Rattle.entries.specs.Entries.{withHazard, withHandover}
+use Rattle.pool.specs.Promise.{free-is-object, taken-out, put-back}
+use Rattle.machine.specs.Parts.{linkAt, slotAt, handOf, phaseOf, positionOf, tagOf, withThread, withSlot, withLink, become}
+use Rattle.machine.specs.Sound.{limits, thread-long, link-long, slot-long, tag-long, its-position, marked-object, its-slot}
+use Rattle.machine.specs.Answers.{numbersOf, numbers}
 use Rattle.machine.specs.declared.Answer.the-variants.{Refused}
-use Rattle.machine.specs.Soundness.{sound}
-use Rattle.entries.specs.Entries.{bit}
-use Rattle.machine.specs.Answers.{numbersOf}
-use Rattle.machine.specs.Calls.{outcome, takeOf, protectOf, swapOf, readOf, retireOf, clearOf}
-use Rattle.machine.specs.GoOn.{goOnOf}
-use Rattle.machine.specs.Refusals.{Row, firstOf, refusals, refusalOf}
-use Rattle.machine.specs.Step.{doneOf, stepOf}
-use Rattle.laws.specs.Lemmas.Bools.{and-l, and-r, tested}
-use Rattle.laws.specs.Lemmas.Accepted.{Accepted, accepted, by-operation, thread-less, not-idle}
-use Rattle.promise.specs.Store.{Store}
-use Rattle.promise.specs.History.{isRetire, isFreed}
-use Rattle.promise.specs.Reading.{Reading, noted}
-use Rattle.promise.specs.Listing.{listedOf}
-use Rattle.promise.specs.Lemmas.Invariant.{Invariant, Matches, none-listed, event}
-use Rattle.promise.specs.Lemmas.StepCalls.{take-matches, protect-matches, swap-matches, read-matches, retire-matches, clear-matches}
-use Rattle.promise.specs.Lemmas.StepGoOn.{go-on-matches}
+use Rattle.machine.specs.Calls.{outcome, expected}
+use Rattle.machine.specs.Accepted.{refusals-high}
+use Rattle.laws.specs.OnePlace.{carried-not-free}
+use Rattle.laws.specs.Ways.{named, Does, NamesProtected, Way, refused, takes, begins, swaps, moves, reads, retires, clears, publishes, protects, finds-nothing, loads-again, finishes, drains, meets, passes, frees, leaves, displaces}
+use Rattle.promise.specs.Store.{Store, take, protect, swap, read, retire, clear, says, next, tagOfRecord}
+use Rattle.promise.specs.Reading.{Reading, noted, renamed, recordOf}
+use Rattle.promise.specs.Listing.{listedOf, atOnce, ending}
+use Rattle.promise.specs.Holdings.{SameHoldings}
+use Rattle.promise.specs.Lemmas.Same.{Held, Same, record-none, record-some, compare-records, compare-none, named-freed, same-hand, same-link, same-slot, same-pool}
+use Rattle.promise.specs.Lemmas.SameTake.{taking, held-same, taken-record, named-taken, holdings-taken}
+use Rattle.promise.specs.Lemmas.Invariant.{Invariant, Matches, one-listed, none-listed, links-held, hands-held, slots-held}
 
--- the numbers of a table's lines are from `low` on
-pub allFrom : ℕ → List Row → Bool
-allFrom low [] = true
-allFrom low (row ∷ rows) = leb low (row .number) && allFrom low rows
-
--- so what it gives is 0, or from there on
-pub first-from : (low : ℕ) (rows : List Row) → allFrom low rows ≡ true → (firstOf rows ≡ 0 → ⊥) → low ≤ firstOf rows
-unfolding firstOf allFrom
-first-from low [] h = λ some. absurd (some refl)
-first-from low (row ∷ rows) h =
-    by (row .applies) (leb-true low (row .number) (and-l _ (allFrom low rows) h))
-    (first-from low rows (and-r (leb low (row .number)) _ h))
-  where
-    by : (b : Bool) → low ≤ row .number → ((firstOf rows ≡ 0 → ⊥) → low ≤ firstOf rows)
-        → (cond b (row .number) (firstOf rows) ≡ 0 → ⊥) → low ≤ cond b (row .number) (firstOf rows)
-    by true this other some = this
-    by false this other some = other some
-
--- a refusal's number is above every answer's
-all-high : (s : State) (c : Call) → allFrom 12 (refusals s c) ≡ true
-unfolding refusals allFrom
-all-high s c = refl
-
-pub above-answers : (s : State) (c : Call) → (refusalOf s c ≡ 0 → ⊥) → 12 ≤ refusalOf s c
-unfolding refusalOf
-above-answers s c some = first-from 12 (refusals s c) (all-high s c) some
-
--- of a sound state it is also above 19
-after-first : List Row → List Row
-after-first [] = []
-after-first (row ∷ rows) = rows
-
-later-high : (s : State) (c : Call) → allFrom 20 (after-first (refusals s c)) ≡ true
-unfolding refusals allFrom after-first
-later-high s c = refl
-
-pub sound-not-19 : (s : State) (c : Call) → sound s ≡ true → refusalOf s c ≡ 19 → ⊥
-unfolding refusalOf refusals firstOf after-first
-sound-not-19 s c h e =
-    let e′ : firstOf (after-first (refusals s c)) ≡ 19 = rw h at e in
-    let high = first-from 20 (after-first (refusals s c)) (later-high s c) (λ none. omega arith) in
-    omega arith
+both-off : (b : Bool) → (b && false) ≡ false
+both-off true = refl
+both-off false = refl
 
 module _ (s : State) (c : Call) (r : Reading) (store : Store) (v : Invariant s r store) where
-  done-matches : Accepted s c → Matches s c r store (doneOf s c)
-  unfolding doneOf
-  done-matches a =
-      let under = thread-less s c a in
-      by-operation s c a (Matches s c r store (doneOf s c))
-      (λ op.
-      let is : doneOf s c ≡ takeOf s (c .thread) (c .tag) = rw op in
-      subst (Matches s c r store) (sym is) (take-matches s c r store v a op))
-      (λ op.
-      let is : doneOf s c ≡ protectOf s (c .thread) (c .slot) (c .link) = rw op in
-      subst (Matches s c r store) (sym is) (protect-matches s c r store v a op))
-      (λ op.
-      let is : doneOf s c ≡ swapOf s (c .thread) (c .slot) (c .link) = rw op in
-      subst (Matches s c r store) (sym is) (swap-matches s c r store v a op))
-      (λ op.
-      let is : doneOf s c ≡ readOf s (c .thread) (c .slot) = rw op in
-      subst (Matches s c r store) (sym is) (read-matches s c r store v a op))
-      (λ op.
-      let is : doneOf s c ≡ retireOf s (c .thread) = rw op in
-      subst (Matches s c r store) (sym is) (retire-matches s c r store v a op))
-      (λ op.
-      let is : doneOf s c ≡ clearOf s (c .thread) (c .slot) = rw op in
-      subst (Matches s c r store) (sym is) (clear-matches s c r store v a op))
-      (λ op.
-      let is : doneOf s c ≡ goOnOf s (c .thread) = rw op in
-      subst (Matches s c r store) (sym is) (go-on-matches s c r store v op under (not-idle s c a op)))
+  abbrev t : ℕ
+  t = c .thread
 
-  refused-matches : (k : ℕ) → 12 ≤ k → Matches s c r store (outcome s (Refused k))
-  unfolding listedOf numbersOf noted isFreed isRetire bit
-  refused-matches k high =
+  -- the thread's store, its hand kept, after one that the store of records does not notice, or that `mid` describes
+  pub becoming : {n : ℕ} → Does s c n → (mid : State) (after : Store) (phase : Phase) → SameHoldings mid r after
+      → mid .threads ≡ s .threads → mid .sizes ≡ s .sizes → after .hands ≡ store .hands
+      → SameHoldings (withThread mid t (handOf s t) phase) r after
+  becoming d mid after phase same threads sizes hands =
+      same-hand mid r after same t (handOf s t) phase (after .hands) (rw threads (thread-long s (v .sound .ranged) t (d .thread))) (λ u ne. refl)
+      (rw hands (v .same .holdings .hands t (d .thread)))
+
+  -- only the thread changed
+  thread-same : {n : ℕ} → Does s c n → (phase : Phase) → Same (become s t phase) r store
+  thread-same d phase =
+      record { holdings = becoming d s store phase (v .same .holdings) refl refl refl; names = v .same .names }
+
+  -- a slot's hazard and mark changed, and with it the store's slot
+  hazard-same : {n : ℕ} → Does s c n → (p hazard : ℕ) (mark : Bool) (phase : Phase) (slots : ℕ → ℕ) → p < positions (s .sizes)
+      → ((q : ℕ) → (q ≡ p → ⊥) → slots q ≡ store .slots q) → (mark ≡ true → slots p ≡ recordOf r hazard)
+      → Same (become (withSlot s p (withHazard (slotAt s p) hazard mark)) t phase) r
+      (record { links = store .links; hands = store .hands; slots = slots; tags = store .tags })
+  hazard-same d p hazard mark phase slots inside others this =
+      record {
+        holdings =
+            becoming d _ _ phase
+            (same-slot s r store (v .same .holdings) p (withHazard (slotAt s p) hazard mark) slots (slot-long s (v .sound .ranged) p inside) others (λ under. this))
+            refl refl refl;
+        names = v .same .names;
+      }
+
+  -- a handover changed
+  handover-same : {n : ℕ} → Does s c n → (p into : ℕ) (phase : Phase) → p < positions (s .sizes)
+      → Same (become (withSlot s p (withHandover (slotAt s p) into)) t phase) r store
+  handover-same d p into phase inside =
+      record {
+        holdings =
+            becoming d _ store phase
+            (same-slot s r store (v .same .holdings) p (withHandover (slotAt s p) into) (store .slots) (slot-long s (v .sound .ranged) p inside) (λ q ne. refl)
+            (v .same .holdings .slots p))
+            refl refl refl;
+        names = v .same .names;
+      }
+
+  -- what a swap compares: the store's record is that of the machine's object
+  record Compared : Type 0 where
+    held : Held (s .sizes .objects) (s .pool) (expected s t (c .slot))
+    record-is : cond (eqb (c .slot) 255) 0 (store .slots (named s c)) ≡ recordOf r (expected s t (c .slot))
+
+  compared : NamesProtected s c → Compared
+  unfolding expected
+  compared protected =
+      same-or-not Compared (c .slot) 255
+      (λ e.
+      let yes′ : eqb (c .slot) 255 ≡ true = eq-eqb _ _ e in
+      record { held = rw yes′ (λ less. absurd (omega arith)); record-is = rw yes′ (sym (record-none r)) })
+      (λ ne.
+      let no′ : eqb (c .slot) 255 ≡ false = ne-eqb _ _ ne in
+      let at = protected ne in
+      record {
+        held = rw no′ (slots-held s (v .sound) (v .guarded) (named s c) (at .0) (at .1));
+        record-is = rw no′ (v .same .holdings .slots (named s c) (at .0) (at .1));
+      })
+
+  -- both compare alike
+  swap-alike : c .link < s .sizes .links → NamesProtected s c
+      → eqb (store .links (c .link)) (cond (eqb (c .slot) 255) 0 (store .slots (named s c))) ≡ eqb (linkAt s (c .link)) (expected s t (c .slot))
+  swap-alike inside protected =
+      let k = compared protected in
+      rw (v .same .holdings .links (c .link) inside, k .record-is)
+      (compare-records (v .same .names) (linkAt s (c .link)) (expected s t (c .slot)) (links-held s (v .sound) (c .link) inside) (k .held))
+
+  -- the tag of the record of an object that is held is the object's
+  tag-same : (o : ℕ) → Held (s .sizes .objects) (s .pool) o → 0 < o → tagOfRecord store (recordOf r o) ≡ tagOf s o
+  tag-same o held some = ap (tagOfRecord store) (record-some r o some) ∙ v .same .names .tagged o (held some)
+
+  -- a slot that is not protected may hold anything in the store
+  slot-forgotten : (p x : ℕ) → ((slotAt s p) .mark ≡ true → ⊥)
+      → SameHoldings s r (record { links = store .links; hands = store .hands; slots = put (store .slots) p x; tags = store .tags })
+  slot-forgotten p x unmarked =
+      let m = v .same .holdings in
+      record {
+        links = m .links;
+        hands = m .hands;
+        slots =
+            λ q under marked.
+            same-or-not (put (store .slots) p x q ≡ recordOf r ((slotAt s q) .hazard)) q p
+            (λ e. absurd (unmarked (subst (λ (k : ℕ). (slotAt s k) .mark ≡ true) e marked)))
+            (λ ne. put-other (store .slots) p x q ne ∙ m .slots q under marked);
+      }
+
+  -- what the store's link holds is the record of what the machine's holds
+  link-record : {link o : ℕ} → link < s .sizes .links → linkAt s link ≡ o → store .links link ≡ recordOf r o
+  link-record {link} {o} inside e = v .same .holdings .links link inside ∙ ap (recordOf r) e
+
+  link-held : {link o : ℕ} → link < s .sizes .links → linkAt s link ≡ o → Held (s .sizes .objects) (s .pool) o
+  link-held {link} {o} inside e = subst (Held (s .sizes .objects) (s .pool)) e (links-held s (v .sound) link inside)
+
+  pub matches : {o : Outcome} → Way s c o → Matches s c r store o
+  unfolding listedOf atOnce ending numbersOf noted renamed says next
+  matches (refused {k = k} first) =
+      let high = first-from (refusals-high s c) first in
       let far : leb k 11 ≡ false = lt-leb k 11 high in
-      let no-freed : eqb k 11 ≡ false = ne-eqb k 11 (λ e. omega arith) in
-      let no-retire : isRetire (event s c r store (outcome s (Refused k))) ≡ false = never (eqb (c .operation) 5) (ne-eqb k 2 (λ e. omega arith)) in
-      none-listed s c r store (outcome s (Refused k)) (rw (far, both-off (leb 1 k))) v refl (rw (no-freed, no-retire))
-    where
-      never : (b : Bool) {d : Bool} → d ≡ false → (b && d) ≡ false
-      never true e = e
-      never false e = refl
-
-      both-off : (b : Bool) → (b && false) ≡ false
-      both-off true = refl
-      both-off false = refl
-
-  pub step-matches : Matches s c r store (stepOf s c)
-  unfolding stepOf
-  step-matches =
-      ⊎-elim
-      (λ (done : eqb (refusalOf s c) 0 ≡ true).
-      let is : stepOf s c ≡ doneOf s c = rw done in
-      subst (Matches s c r store) (sym is) (done-matches (accepted s c (eqb-true _ _ done))))
-      (λ (refused : eqb (refusalOf s c) 0 ≡ false).
-      let is : stepOf s c ≡ outcome s (Refused (refusalOf s c)) = rw refused in
-      subst (Matches s c r store) (sym is) (refused-matches (refusalOf s c) (above-answers s c (eqb-false _ _ refused))))
-      (tested (eqb (refusalOf s c) 0))
+      none-listed s c r store _ (rw (far, both-off (leb 1 k))) (v .same)
+  matches (takes {o = o} d empty is free) =
+      let n = s .sizes .objects in
+      let ranged = v .sound .ranged in
+      let b = limits s ranged in
+      let names = v .same .names in
+      let object = free-is-object n (s .pool) (ranged .pool) o free in
+      let out = taken-out n (s .pool) (b .objects) (ranged .pool) o free in
+      let less = tag-long s ranged o (object .0) (object .1) in
+      let record-is = taken-record n (s .pool) _ (s .tags) r (store .tags) names o (c .tag) (object .0) less free (out .others) in
+      let same = held-same n (s .pool) _ (s .tags) r (store .tags) names o (c .tag) (object .0) less free (out .others) in
+      let number : suc (length (store .tags)) ≡ recordOf (taking r o) o = ap suc (names .count) ∙ sym record-is in
+      one-listed s c r store _ (take t (c .tag)) (rw (d .operation)) (ap (λ (k : ℕ). numbers 1 k 0) number)
+      (record {
+        holdings =
+            holdings-taken s r (taking r o) store (v .same .holdings) t o (c .tag) (phaseOf s t) _ _ (thread-long s (v .sound .ranged) t (d .thread)) number
+            (λ i under. same (linkAt s i) (links-held s (v .sound) i under))
+            (λ u under. same (handOf s u) (hands-held s (v .sound) u under))
+            (λ p under marked. same ((slotAt s p) .hazard) (slots-held s (v .sound) (v .guarded) p under marked));
+        names = named-taken n (s .pool) _ (s .tags) r (store .tags) names o (c .tag) (object .0) less free (out .others);
+      })
+  matches (begins d idle slot link is) = none-listed s c r store _ (rw (d .operation)) (thread-same d _)
+  matches (swaps {o = o} d link protected is same) =
+      let both : eqb (store .links (c .link)) (cond (eqb (c .slot) 255) 0 (store .slots (named s c))) ≡ true =
+      swap-alike link protected ∙ eq-eqb _ _ (is ∙ same)
+      in
+      let links = link-record link is in
+      let mid =
+      same-link s r store (v .same .holdings) (c .link) (handOf s t) (put (store .links) (c .link) (store .hands t))
+      (link-long s (v .sound .ranged) (c .link) link)
+      (λ j ne. put-other (store .links) (c .link) (store .hands t) j ne)
+      (put-same (store .links) (c .link) (store .hands t) ∙ v .same .holdings .hands t (d .thread))
+      in
+      one-listed s c r store _ (swap t (c .slot) (c .link)) (rw (d .operation))
+      (rw both (ap (λ (k : ℕ). numbers 6 k 0) links))
+      (rw both
+      (record {
+        holdings =
+            same-hand _ r _ mid t o (phaseOf s t) (put (store .hands) t (store .links (c .link))) (thread-long s (v .sound .ranged) t (d .thread))
+            (λ u ne. put-other (store .hands) t (store .links (c .link)) u ne)
+            (put-same (store .hands) t (store .links (c .link)) ∙ links);
+        names = v .same .names;
+      }))
+  matches (moves d link protected other) =
+      let both : eqb (store .links (c .link)) (cond (eqb (c .slot) 255) 0 (store .slots (named s c))) ≡ false =
+      swap-alike link protected ∙ ne-eqb _ _ other
+      in
+      one-listed s c r store _ (swap t (c .slot) (c .link)) (rw (d .operation)) (rw both) (rw both (v .same))
+  matches (reads d inside marked) =
+      let hazard = (slotAt s (named s c)) .hazard in
+      let some = marked-object s (v .sound .ranged) (named s c) inside marked .0 in
+      let tag =
+      ap (tagOfRecord store) (v .same .holdings .slots (named s c) inside marked) ∙
+      tag-same hazard (slots-held s (v .sound) (v .guarded) (named s c) inside marked) some
+      in
+      one-listed s c r store _ (read t (c .slot)) (rw (d .operation)) (ap (λ (k : ℕ). numbers 8 k 0) tag) (v .same)
+  matches (retires {o = o} d idle full some) =
+      one-listed s c r store _ (retire t) (rw (d .operation))
+      (ap (λ (k : ℕ). numbers 2 k 0) (v .same .holdings .hands t (d .thread) ∙ ap (recordOf r) full))
+      (record {
+        holdings =
+            same-hand s r store (v .same .holdings) t 0 _ (put (store .hands) t 0) (thread-long s (v .sound .ranged) t (d .thread))
+            (λ u ne. put-other (store .hands) t 0 u ne)
+            (put-same (store .hands) t 0 ∙ sym (record-none r));
+        names = v .same .names;
+      })
+  matches (clears d idle slot) =
+      one-listed s c r store _ (clear t (c .slot)) (rw (d .operation)) (ap (λ (k : ℕ). numbers 2 k 0) (sym (record-none r)))
+      (hazard-same d _ 0 false _ (put (store .slots) (named s c) 0) (its-position s (v .sound .ranged) t (c .slot) (d .thread) slot)
+      (λ q ne. put-other (store .slots) (named s c) 0 q ne)
+      (λ m. absurd (false≢true m)))
+  matches (publishes {slot = slot} {o = o} d was inside inside′ most) =
+      none-listed s c r store _ (rw (d .operation))
+      (hazard-same d _ o false _ (store .slots) (its-position s (v .sound .ranged) t slot (d .thread) inside) (λ q ne. refl)
+      (λ m. absurd (false≢true m)))
+  matches (protects {slot = slot} {link = link} {o = o} d was inside inside′ is same some) =
+      let p = positionOf s t slot in
+      let links = link-record inside′ is in
+      let held = link-held inside′ is in
+      let there : eqb (store .links link) 0 ≡ false =
+      rw links (compare-none (v .same .names) o held ∙ ne-eqb o 0 (λ e. omega arith))
+      in
+      one-listed s c r store _ (protect t slot link) (rw (d .operation, was))
+      (rw there
+      (ap (λ (k : ℕ). numbers 4 k (tagOfRecord store k)) links ∙ ap (numbers 4 (recordOf r o)) (tag-same o held some)))
+      (hazard-same d p _ true _ (put (store .slots) p (store .links link)) (its-position s (v .sound .ranged) t slot (d .thread) inside)
+      (λ q ne. put-other (store .slots) p (store .links link) q ne)
+      (λ m. put-same (store .slots) p (store .links link) ∙ links ∙ ap (recordOf r) same))
+  matches (finds-nothing {slot = slot} {link = link} d was inside inside′ is none) =
+      let p = positionOf s t slot in
+      let at = its-position s (v .sound .ranged) t slot (d .thread) inside in
+      let links = link-record inside′ is ∙ record-none r in
+      let there : eqb (store .links link) 0 ≡ true = eq-eqb _ _ links in
+      one-listed s c r store _ (protect t slot link) (rw (d .operation, was)) (rw there)
+      (record {
+        holdings =
+            becoming d s _ _
+            (slot-forgotten p (store .links link) (λ marked. (its-slot s (v .sound .ranged) p at) .marked marked none))
+            refl refl refl;
+        names = v .same .names;
+      })
+  matches (loads-again d was inside inside′ is other) = none-listed s c r store _ (rw (d .operation)) (thread-same d _)
+  matches (finishes p d carries inside empty) = none-listed s c r store _ (rw (d .operation)) (handover-same d p 0 _ inside)
+  matches (drains p next′ d carries inside full scans) = none-listed s c r store _ (rw (d .operation)) (handover-same d p 0 next′ inside)
+  matches (meets next′ d was inside match scans) = none-listed s c r store _ (rw (d .operation)) (thread-same d next′)
+  matches (passes next′ d was inside other scans) = none-listed s c r store _ (rw (d .operation)) (thread-same d next′)
+  matches (frees {o = o} next′ d was past ended fine) =
+      let ranged = v .sound .ranged in
+      let taken = carried-not-free s (v .sound) o (was .some) (was .most) t (d .thread) (was .carries) in
+      let back = put-back (s .sizes .objects) (s .pool) ((limits s ranged) .objects) (ranged .pool) o (was .some) (was .most) taken in
+      none-listed s c r store _ (rw (d .operation))
+      (record {
+        holdings = becoming d _ store next′ (same-pool s r store (v .same .holdings) _ o 0) refl refl refl;
+        names = named-freed (v .same .names) _ o (was .some) (back .this) (back .others);
+      })
+  matches (leaves {o = o} {q = q} next′ d was inside empty ended fine) =
+      none-listed s c r store _ (rw (d .operation)) (handover-same d q o next′ inside)
+  matches (displaces {o = o} {q = q} next′ d was inside full scans) =
+      none-listed s c r store _ (rw (d .operation)) (handover-same d q o next′ inside)

@@ -1,100 +1,203 @@
--- How many are given up and not yet freed: one store changes the number by what went and what came, and there is room for T × (H + 1).
-use Prim.Native.Nat.{ℕ, zero, suc, _+_, _*_, _<_, _≤_}
+-- How many are given up and not yet freed: an accepted retire adds one, a Freed answer takes one off, nothing else changes the number, and there
+-- is room for T × (H + 1).
+use Prim.Native.Nat.{ℕ, _+_, _*_, _<_, _≤_}
 use native.Mathlib.Omega.{arith}
-use mathlib.Core.Path.{_≡_, ap}
-use mathlib.Core.Bool.{Bool, true, false}
-use mathlib.Core.Logic.{⊎-elim}
-use mathlib.Core.List.{List, [], _∷_}
-use lib.ListN.{length, getD, set, List·getD-eq-default}
-use lib.Dec.{ltb}
-use borrow.Author.Tests.{eqb-true, eq-eqb, ltb-true, ltb-false, le-ltb}
+use mathlib.Core.Path.{_≡_, refl, sym, ap, _∙_}
+use mathlib.Core.Bool.{Bool, true, false, _&&_}
+use lib.ListN.{length, getD, List·getD-eq-default}
+use lib.Dec.{eqb, ltb}
+use borrow.Author.Tests.{ne-eqb, ltb-true, ltb-false}
 use Rattle.machine.specs.declared.State.{State}
+use Rattle.machine.specs.declared.Call.{Call}
+use Rattle.machine.specs.declared.Outcome.{Outcome}
 use Rattle.entries.specs.declared.Slot.{Slot}
 use Rattle.entries.specs.declared.Thread.{Thread}
 use Rattle.entries.specs.declared.Phase.{Phase}
+use Rattle.entries.specs.declared.Phase.the-variants.{Idle, Loaded, Published, Draining, Look}
+use Rattle.basics.specs.Tests.{by-test}
+use Rattle.basics.specs.Counts.{bit, how-many-set, how-many-under}
+use Rattle.basics.specs.Rows.{first-from}
 use Rattle.entries.specs.Sizes.{positions}
-use Rattle.machine.specs.Parts.{slotAt, phaseOf, withThread, withSlot}
-use Rattle.entries.specs.Entries.{idleThread, emptySlot, bit, slotGood, threadGood, howMany, some}
 use Rattle.entries.specs.Phases.{carriedBy}
-use Rattle.machine.specs.Count.{placesOf}
-use Rattle.laws.specs.Lemmas.Bools.{ands, tested}
-use Rattle.laws.specs.Lemmas.Ranged.{Shape, Ranged}
-use Rattle.laws.specs.Lemmas.Free.{idle-carries}
+use Rattle.entries.specs.PhaseFacts.{idle-carries}
+use Rattle.entries.specs.Entries.{thread, idleThread, emptySlot, isObject, withHazard, withHandover}
+use Rattle.pool.specs.Pool.{takenOut, putBack}
+use Rattle.entries.specs.Facts.{thread-empty, slot-empty}
+use Rattle.machine.specs.Parts.{slotAt, threadAt, handOf, phaseOf, withLink, withThread, withSlot, withPool}
+use Rattle.machine.specs.Sound.{Ranged, Sound, thread-long, slot-long, its-position}
+use Rattle.machine.specs.Answers.{numbersOf}
+use Rattle.machine.specs.Count.{fivePlaces}
+use Rattle.machine.specs.Accepted.{refusals-high}
+use Rattle.laws.specs.Ways.{own, named, Does, Way, refused, takes, begins, swaps, moves, reads, retires, clears, publishes, protects, finds-nothing, loads-again, finishes, drains, meets, passes, frees, leaves, displaces}
+use Rattle.promise.specs.History.{Event, isRetire, isFreed}
 use Rattle.promise.specs.Holdings.{waiting}
 
-module _ {A : Type 0} (test : A → Bool) where
-  how-many-set : (xs : List A) (i : ℕ) (v d : A) → i < length xs
-      → howMany test (set xs i v) + bit (test (getD xs i d)) ≡ howMany test xs + bit (test v)
-  unfolding howMany
-  how-many-set [] i v d less = absurd (omega arith)
-  how-many-set (x ∷ xs) zero v d less = omega arith
-  how-many-set (x ∷ xs) (suc i) v d less = let rest = how-many-set xs i v d (omega arith) in omega arith
+-- one that is carried, or stands in a handover
+one : ℕ → ℕ
+one x = bit (isObject x)
 
-  -- where the test fails from n on, at most n pass it
-  how-many-most : (xs : List A) (n : ℕ) (d : A) → ((i : ℕ) → n ≤ i → test (getD xs i d) ≡ false) → howMany test xs ≤ n
-  unfolding howMany bit
-  how-many-most [] n d off = omega arith
-  how-many-most (x ∷ xs) zero d off =
-      let here : bit (test x) ≡ 0 = rw (off 0 (omega arith)) in
-      let rest = how-many-most xs zero d (λ i low. off (suc i) (omega arith)) in
-      omega arith
-  how-many-most (x ∷ xs) (suc n) d off =
-      let here = bit-most (test x) in
-      let rest = how-many-most xs n d (λ i low. off (suc i) (omega arith)) in
-      omega arith
-    where
-      bit-most : (b : Bool) → bit b ≤ 1
-      bit-most true = omega arith
-      bit-most false = omega arith
+same-one : {x y : ℕ} → x ≡ y → one x ≡ one y
+same-one e = rw e
 
-module _ (s : State) (h : Shape s) where
-  pub waiting-thread : (t hand : ℕ) (phase : Phase) → t < 8
-      → waiting (withThread s t hand phase) + bit (some (carriedBy (phaseOf s t))) ≡ waiting s + bit (some (carriedBy phase))
-  unfolding placesOf
-  waiting-thread t hand phase less =
-      let law =
-      how-many-set (λ (x : Thread). some (carriedBy (x .phase))) (s .threads) t (record { hand = hand; phase = phase }) idleThread
-      (rw (h .threads) less)
-      in
+no-one : {x : ℕ} → x ≡ 0 → one x ≡ 0
+unfolding one bit
+no-one e = rw e
+
+some-one : {x : ℕ} → 0 < x → one x ≡ 1
+unfolding one bit
+some-one {x} some = rw (ne-eqb x 0 (λ e. omega arith))
+
+module _ (s : State) where
+  waiting-thread : (t hand : ℕ) (phase : Phase) → t < length (s .threads)
+      → waiting (withThread s t hand phase) + one (carriedBy (phaseOf s t)) ≡ waiting s + one (carriedBy phase)
+  unfolding fivePlaces one
+  waiting-thread t hand phase long =
+      let law = how-many-set (λ (x : Thread). isObject (carriedBy (x .phase))) (s .threads) t (thread hand phase) idleThread long in
       omega arith
 
-  pub waiting-slot : (p : ℕ) (slot : Slot) → p < 32
-      → waiting (withSlot s p slot) + bit (some ((slotAt s p) .handover)) ≡ waiting s + bit (some (slot .handover))
-  unfolding placesOf
-  waiting-slot p slot less =
-      let law = how-many-set (λ (x : Slot). some (x .handover)) (s .slots) p slot emptySlot (rw (h .slots) less) in
+  waiting-slot : (p : ℕ) (slot : Slot) → p < length (s .slots)
+      → waiting (withSlot s p slot) + one ((slotAt s p) .handover) ≡ waiting s + one (slot .handover)
+  unfolding fivePlaces one
+  waiting-slot p slot long =
+      let law = how-many-set (λ (x : Slot). isObject (x .handover)) (s .slots) p slot emptySlot long in
       omega arith
 
-not-some : (x : ℕ) → x ≡ 0 → some x ≡ false
-not-some x e = rw (eq-eqb x 0 e)
+both-off : (b : Bool) → (b && false) ≡ false
+both-off true = refl
+both-off false = refl
+
+abbrev event : State → Call → Outcome → Event
+event s c o = record { before = s; call = c; answer = o .answer }
+
+-- the counts of an event that is neither
+abbrev Still : State → Call → Outcome → Type 0
+Still s c o = waiting (o .state) + bit (isFreed (event s c o)) ≡ waiting s + bit (isRetire (event s c o))
+
+module _ (s : State) (c : Call) (h : Sound s) where
+  abbrev t : ℕ
+  t = c .thread
+
+  -- the thread's store after one that changed no handover, and after one that did
+  thread-waits : {n : ℕ} → Does s c n → (mid : State) → mid .threads ≡ s .threads → mid .slots ≡ s .slots → (hand : ℕ) (phase : Phase)
+      → waiting (withThread mid t hand phase) + one (carriedBy (phaseOf s t)) ≡ waiting s + one (carriedBy phase)
+  unfolding fivePlaces one
+  thread-waits d mid e e′ hand phase =
+      let law = how-many-set (λ (x : Thread). isObject (carriedBy (x .phase))) (s .threads) t (thread hand phase) idleThread (thread-long s (h .ranged) t (d .thread)) in
+      rw (e, e′) (omega arith)
+
+  slot-waits : {n : ℕ} → Does s c n → (p : ℕ) (slot : Slot) (phase : Phase) → p < positions (s .sizes)
+      → waiting (withThread (withSlot s p slot) t (handOf s t) phase) + one ((slotAt s p) .handover) + one (carriedBy (phaseOf s t))
+      ≡ waiting s + one (slot .handover) + one (carriedBy phase)
+  slot-waits d p slot phase inside =
+      let first = waiting-slot s p slot (slot-long s (h .ranged) p inside) in
+      let second = waiting-thread (withSlot s p slot) t (handOf s t) phase (thread-long s (h .ranged) t (d .thread)) in
+      omega arith
+
+  pub waiting-kept : {o : Outcome} → Way s c o → Still s c o
+  unfolding isRetire isFreed numbersOf carriedBy bit
+  waiting-kept (refused {k = k} first) =
+      let high = first-from (refusals-high s c) first in
+      let not-freed : eqb k 11 ≡ false = ne-eqb k 11 (λ e. omega arith) in
+      let not-begun : eqb k 2 ≡ false = ne-eqb k 2 (λ e. omega arith) in
+      simp (not-freed, not-begun, both-off (eqb (c .operation) 5))
+  waiting-kept (takes {o = o} d empty next free) =
+      let law = thread-waits d (withPool s (takenOut (s .pool) o) o (c .tag)) refl refl o (phaseOf s t) in
+      rw (d .operation) (omega arith)
+  waiting-kept (begins {o = o} d idle slot link read) =
+      let law = thread-waits d s refl refl (handOf s t) (Loaded (c .slot) (c .link) o) in
+      let none = no-one (idle-carries (phaseOf s t) idle) in
+      rw (d .operation) (omega (arith, no-one {x = 0} refl))
+  waiting-kept (swaps {o = o} d link protected read same) =
+      let law = thread-waits d (withLink s (c .link) (handOf s t)) refl refl o (phaseOf s t) in
+      rw (d .operation) (omega arith)
+  waiting-kept (moves d link protected other) = rw (d .operation)
+  waiting-kept (reads d inside marked) = rw (d .operation)
+  waiting-kept (retires {o = o} d idle full some) =
+      let law = thread-waits d s refl refl 0 (Look o 0) in
+      let none = no-one (idle-carries (phaseOf s t) idle) in
+      let this = some-one some in
+      rw (d .operation) (omega arith)
+  waiting-kept (clears d idle slot) =
+      let p = named s c in
+      let law = slot-waits d p (withHazard (slotAt s p) 0 false) (Draining (c .slot)) (its-position s (h .ranged) t (c .slot) (d .thread) slot) in
+      let none = no-one (idle-carries (phaseOf s t) idle) in
+      rw (d .operation) (omega (arith, no-one {x = 0} refl))
+  waiting-kept (publishes {slot = slot} {link = link} {o = o} d was inside inside′ most) =
+      let p = own s c slot in
+      let law = slot-waits d p (withHazard (slotAt s p) o false) (Published slot link) (its-position s (h .ranged) t slot (d .thread) inside) in
+      let none = no-one (ap carriedBy was) in
+      rw (d .operation) (omega (arith, no-one {x = 0} refl))
+  waiting-kept (protects {slot = slot} d was inside inside′ read same some) =
+      let p = own s c slot in
+      let law = slot-waits d p (withHazard (slotAt s p) ((slotAt s p) .hazard) true) Idle (its-position s (h .ranged) t slot (d .thread) inside) in
+      let none = no-one (ap carriedBy was) in
+      rw (d .operation) (omega (arith, no-one {x = 0} refl))
+  waiting-kept (finds-nothing d was inside inside′ read nothing) =
+      let law = thread-waits d s refl refl (handOf s t) Idle in
+      let none = no-one (ap carriedBy was) in
+      rw (d .operation) (omega (arith, no-one {x = 0} refl))
+  waiting-kept (loads-again {slot = slot} {link = link} {o = o} d was inside inside′ read other) =
+      let law = thread-waits d s refl refl (handOf s t) (Loaded slot link o) in
+      let none = no-one (ap carriedBy was) in
+      rw (d .operation) (omega (arith, no-one {x = 0} refl))
+  waiting-kept (finishes p d carries inside empty) =
+      let law = slot-waits d p (withHandover (slotAt s p) 0) Idle inside in
+      let none = no-one carries in
+      let none′ = no-one empty in
+      rw (d .operation) (omega (arith, no-one {x = 0} refl))
+  waiting-kept (drains p next d carries inside full scans) =
+      let law = slot-waits d p (withHandover (slotAt s p) 0) next inside in
+      let none = no-one carries in
+      let this = same-one (scans .carries ∙ sym full) in
+      rw (d .operation) (omega (arith, no-one {x = 0} refl))
+  waiting-kept (meets next d was inside match scans) =
+      let law = thread-waits d s refl refl (handOf s t) next in
+      let this = same-one (scans .carries ∙ sym (was .carries)) in
+      rw (d .operation) (omega arith)
+  waiting-kept (passes next d was inside other scans) =
+      let law = thread-waits d s refl refl (handOf s t) next in
+      let this = same-one (scans .carries ∙ sym (was .carries)) in
+      rw (d .operation) (omega arith)
+  waiting-kept (frees {o = o} next d was past ended fine) =
+      let law = thread-waits d (withPool s (putBack (s .pool) o) o 0) refl refl (handOf s t) next in
+      let this = same-one (was .carries) in
+      let one-more = some-one (was .some) in
+      let none = no-one ended in
+      rw (d .operation) (omega arith)
+  waiting-kept (leaves {o = o} {q = q} next d was inside empty ended fine) =
+      let law = slot-waits d q (withHandover (slotAt s q) o) next inside in
+      let this = same-one (was .carries) in
+      let none = no-one empty in
+      let none′ = no-one ended in
+      rw (d .operation) (omega arith)
+  waiting-kept (displaces {o = o} {q = q} next d was inside full scans) =
+      let law = slot-waits d q (withHandover (slotAt s q) o) next inside in
+      let this = same-one (was .carries) in
+      let that = same-one (scans .carries ∙ sym full) in
+      rw (d .operation) (omega arith)
 
 module _ (s : State) (r : Ranged s) where
-  handovers-end : (i : ℕ) → positions (s .sizes) ≤ i → some ((getD (s .slots) i emptySlot) .handover) ≡ false
-  unfolding slotGood
+  handovers-end : (i : ℕ) → positions (s .sizes) ≤ i → isObject ((slotAt s i) .handover) ≡ false
   handovers-end i low =
-      ⊎-elim
-      (λ (in′ : ltb i 32 ≡ true).
-      let all = rw (le-ltb i (positions (s .sizes)) low) at (r .slots i (ltb-true i 32 in′)) in
-      not-some ((getD (s .slots) i emptySlot) .handover) (eqb-true _ _ (search ands)))
-      (λ (out : ltb i 32 ≡ false).
-      ap (λ (x : Slot). some (x .handover)) (List·getD-eq-default (s .slots) emptySlot (rw (r .shape .slots) (ltb-false i 32 out))))
-      (tested (ltb i 32))
+      by-test (isObject ((slotAt s i) .handover) ≡ false) (ltb i 32)
+      (λ inside. ap (λ (x : Slot). isObject (x .handover)) (slot-empty (s .sizes) i (slotAt s i) low (r .slots i (ltb-true i 32 inside))))
+      (λ past.
+      ap (λ (x : Slot). isObject (x .handover)) (List·getD-eq-default (s .slots) emptySlot (rw (r .shape .slots) (ltb-false i 32 past))))
 
-  carried-end : (i : ℕ) → s .sizes .threads ≤ i → some (carriedBy ((getD (s .threads) i idleThread) .phase)) ≡ false
-  unfolding threadGood carriedBy
+  carried-end : (i : ℕ) → s .sizes .threads ≤ i → isObject (carriedBy (phaseOf s i)) ≡ false
+  unfolding carriedBy
   carried-end i low =
-      ⊎-elim
-      (λ (in′ : ltb i 8 ≡ true).
-      let both = rw (le-ltb i (s .sizes .threads) low) at (r .threads i (ltb-true i 8 in′)) in
-      not-some (carriedBy ((getD (s .threads) i idleThread) .phase)) (idle-carries ((getD (s .threads) i idleThread) .phase) (search ands)))
-      (λ (out : ltb i 8 ≡ false).
-      ap (λ (x : Thread). some (carriedBy (x .phase))) (List·getD-eq-default (s .threads) idleThread (rw (r .shape .threads) (ltb-false i 8 out))))
-      (tested (ltb i 8))
+      by-test (isObject (carriedBy (phaseOf s i)) ≡ false) (ltb i 8)
+      (λ inside.
+      ap (λ (x : Thread). isObject (carriedBy (x .phase))) (thread-empty (s .sizes) i (threadAt s i) low (r .threads i (ltb-true i 8 inside))))
+      (λ past.
+      ap (λ (x : Thread). isObject (carriedBy (x .phase)))
+      (List·getD-eq-default (s .threads) idleThread (rw (r .shape .threads) (ltb-false i 8 past))))
 
   -- "at most T × (H + 1)"
   pub waiting-most : waiting s ≤ s .sizes .threads * (s .sizes .slots + 1)
-  unfolding placesOf
+  unfolding fivePlaces
   waiting-most =
-      let a = how-many-most (λ (x : Slot). some (x .handover)) (s .slots) (positions (s .sizes)) emptySlot handovers-end in
-      let b = how-many-most (λ (x : Thread). some (carriedBy (x .phase))) (s .threads) (s .sizes .threads) idleThread carried-end in
+      let a = how-many-under (λ (x : Slot). isObject (x .handover)) (s .slots) (positions (s .sizes)) emptySlot handovers-end in
+      let b = how-many-under (λ (x : Thread). isObject (carriedBy (x .phase))) (s .threads) (s .sizes .threads) idleThread carried-end in
       omega arith

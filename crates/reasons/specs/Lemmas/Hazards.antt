@@ -9,12 +9,12 @@ use borrow.Author.Tests.{lt-ltb, le-ltb, ltb-true, ltb-false, eq-eqb, ne-eqb, eq
 use Rattle.machine.specs.declared.State.{State}
 use Rattle.entries.specs.Sizes.{positions}
 use Rattle.machine.specs.Parts.{slotAt}
-use Rattle.laws.specs.Lemmas.Bools.{tested}
+use Rattle.basics.specs.Tests.{tested}
 use Rattle.reasons.specs.declared.Hazard.{Hazard}
 use Rattle.reasons.specs.declared.Hazard.the-variants.{At, Nowhere}
 use Rattle.reasons.specs.Reasons.{hazardAt, hazardOf}
 use Rattle.reasons.specs.Applies.{NoHazard, FirstHazard}
-use Rattle.reasons.specs.Lemmas.First.{first-is, first-none, first-passes, first-before, none-before}
+use Rattle.basics.specs.First.{first-is, first-none, first-passes, first-before, none-before}
 
 module _ (s : State) (o : ℕ) where
   test : ℕ → Bool

@@ -1,7 +1,7 @@
 -- The reason that is named applies, and no other does.
 use Prim.Native.Nat.{ℕ, _+_, _<_, _≤_}
 use native.Mathlib.Omega.{arith}
-use mathlib.Core.Path.{_≡_, sym, ap, subst, _∙_}
+use mathlib.Core.Path.{_≡_, refl, sym, ap, subst, _∙_}
 use mathlib.Core.Bool.{true, false}
 use mathlib.Core.Logic.{⊎-elim}
 use lib.Dec.{ltb}
@@ -11,20 +11,21 @@ use Rattle.entries.specs.declared.Slot.{Slot}
 use Rattle.entries.specs.declared.Thread.{Thread}
 use Rattle.entries.specs.Sizes.{positions}
 use Rattle.machine.specs.Parts.{linkAt, handOf, phaseOf, slotAt}
-use Rattle.entries.specs.Entries.{idleThread, emptySlot, bit, times}
-use Rattle.entries.specs.Phases.{carriedBy}
-use Rattle.machine.specs.Soundness.{places}
-use Rattle.laws.specs.Lemmas.Bools.{tested}
-use Rattle.laws.specs.Lemmas.Ranged.{Sound, to-sound}
-use Rattle.laws.specs.Lemmas.Good.{bounds}
-use Rattle.promise.specs.Lemmas.OnePlace.{one-place, link-in, hand-in, handover-in, carried-in}
+use Rattle.basics.specs.Counts.{bit, occurrences}
+use Rattle.entries.specs.Entries.{idleThread, emptySlot}
+use Rattle.entries.specs.Phases.{carriedBy, scansAt}
+use Rattle.machine.specs.Soundness.{placesHolding}
+use Rattle.basics.specs.Tests.{tested}
+use Rattle.machine.specs.Sound.{Sound, to-sound}
+use Rattle.entries.specs.Facts.{bounds}
+use Rattle.laws.specs.OnePlace.{one-place, link-in, hand-in, handover-in, carried-in}
 use Rattle.reasons.specs.declared.Reason.{Reason}
 use Rattle.reasons.specs.declared.Reason.the-variants.{Link, Hand, Carried, Handover}
-use Rattle.reasons.specs.Reasons.{guardOf, carriedAt, linkWith, handWith, carrierOf, handoverWith, reasonOf}
+use Rattle.reasons.specs.Reasons.{guardOf, linkWith, handWith, carrierOf, handoverWith, reasonOf}
 use Rattle.reasons.specs.Applies.{Stays, Applies}
 use Rattle.reasons.specs.Lemmas.Rows as rows
 use Rattle.reasons.specs.Lemmas.Somewhere.{left-in-handover, links-empty, hands-empty, carry-none, handovers-empty}
-use Rattle.reasons.specs.Lemmas.Cases.{carrying, carried-is, guarding, guard-is}
+use Rattle.reasons.specs.Lemmas.Guards.{guarding, guard-is}
 
 module _ (s : State) (o : ℕ) (stays : Stays s o) where
   h : Sound s
@@ -66,7 +67,7 @@ module _ (s : State) (o : ℕ) (stays : Stays s o) where
     is-hand less = rw (le-ltb _ _ no-links, lt-ltb _ _ less)
 
     module _ (no-hands : s .sizes .threads ≤ handWith s o) where
-      is-carrier : carrierOf s o < s .sizes .threads → reasonOf s o ≡ Carried (carrierOf s o) (carriedAt (phaseOf s (carrierOf s o)))
+      is-carrier : carrierOf s o < s .sizes .threads → reasonOf s o ≡ Carried (carrierOf s o) (scansAt (phaseOf s (carrierOf s o)))
       unfolding reasonOf
       is-carrier less = rw (le-ltb _ _ no-links, le-ltb _ _ no-hands, lt-ltb _ _ less)
 
@@ -91,7 +92,7 @@ module _ (s : State) (o : ℕ) (stays : Stays s o) where
       split (Applies s o (reasonOf s o)) (carrierOf s o) (s .sizes .threads)
       (λ less.
       subst (Applies s o) (sym (is-carrier no-links no-hands less))
-      (less, carrying o (phaseOf s (carrierOf s o)) (stays .some) (carrier-has less)))
+      (less, (carrier-has less, refl)))
       (λ past.
       let less =
       left-in-handover s h o (stays .some) (stays .most) (stays .kept) no-links no-hands past
@@ -102,19 +103,19 @@ module _ (s : State) (o : ℕ) (stays : Stays s o) where
   -- how often the object stands in each row
 
   inLinks : ℕ
-  inLinks = times (λ (x : ℕ). x) o (s .links)
+  inLinks = occurrences (λ (x : ℕ). x) o (s .links)
 
   inHands : ℕ
-  inHands = times (λ (x : Thread). x .hand) o (s .threads)
+  inHands = occurrences (λ (x : Thread). x .hand) o (s .threads)
 
   inHandovers : ℕ
-  inHandovers = times (λ (x : Slot). x .handover) o (s .slots)
+  inHandovers = occurrences (λ (x : Slot). x .handover) o (s .slots)
 
   isCarried : ℕ
-  isCarried = times (λ (x : Thread). carriedBy (x .phase)) o (s .threads)
+  isCarried = occurrences (λ (x : Thread). carriedBy (x .phase)) o (s .threads)
 
   sum : inLinks + inHands + inHandovers + isCarried ≡ 1
-  unfolding places bit inLinks inHands inHandovers isCarried
+  unfolding placesHolding bit inLinks inHands inHandovers isCarried
   sum = let one = rw (stays .kept) at (one-place s h o (stays .some) (stays .most)) in omega arith
 
   -- a row that has it not at all was searched in vain
@@ -122,30 +123,27 @@ module _ (s : State) (o : ℕ) (stays : Stays s o) where
   links-past : inLinks ≡ 0 → s .sizes .links ≤ linkWith s o
   unfolding inLinks
   links-past none =
-      let b = bounds (s .sizes) (h .ranged .sizes) in
       split (s .sizes .links ≤ linkWith s o) (linkWith s o) (s .sizes .links)
       (λ less.
-      let one = link-in s h o (stays .some) (stays .most) (linkWith s o) (omega (arith, b .links)) (link-has less) in
+      let one = link-in s h o (stays .some) (stays .most) (linkWith s o) less (link-has less) in
       absurd (omega arith))
       (λ past. past)
 
   hands-past : inHands ≡ 0 → s .sizes .threads ≤ handWith s o
   unfolding inHands
   hands-past none =
-      let b = bounds (s .sizes) (h .ranged .sizes) in
       split (s .sizes .threads ≤ handWith s o) (handWith s o) (s .sizes .threads)
       (λ less.
-      let one = hand-in s h o (stays .some) (stays .most) (handWith s o) (omega (arith, b .threads)) (hand-has less) in
+      let one = hand-in s h o (stays .some) (stays .most) (handWith s o) less (hand-has less) in
       absurd (omega arith))
       (λ past. past)
 
   carriers-past : isCarried ≡ 0 → s .sizes .threads ≤ carrierOf s o
   unfolding isCarried
   carriers-past none =
-      let b = bounds (s .sizes) (h .ranged .sizes) in
       split (s .sizes .threads ≤ carrierOf s o) (carrierOf s o) (s .sizes .threads)
       (λ less.
-      let one = carried-in s h o (stays .some) (stays .most) (carrierOf s o) (omega (arith, b .threads)) (carrier-has less) in
+      let one = carried-in s h o (stays .some) (stays .most) (carrierOf s o) less (carrier-has less) in
       absurd (omega arith))
       (λ past. past)
 
@@ -156,7 +154,7 @@ module _ (s : State) (o : ℕ) (stays : Stays s o) where
   the-link i less e =
       let b = bounds (s .sizes) (h .ranged .sizes) in
       let total = sum in
-      let one = link-in s h o (stays .some) (stays .most) i (omega (arith, b .links)) e in (
+      let one = link-in s h o (stays .some) (stays .most) i less e in (
         one,
         rows.is-found (λ (x : ℕ). x) o 0 (s .links) (s .sizes .links) 16 (h .ranged .shape .links) (stays .some)
             (links-empty s h o (stays .some)) (omega arith) i less (b .links) e,
@@ -167,7 +165,7 @@ module _ (s : State) (o : ℕ) (stays : Stays s o) where
   the-hand t less e =
       let b = bounds (s .sizes) (h .ranged .sizes) in
       let total = sum in
-      let one = hand-in s h o (stays .some) (stays .most) t (omega (arith, b .threads)) e in (
+      let one = hand-in s h o (stays .some) (stays .most) t less e in (
         one,
         rows.is-found (λ (x : Thread). x .hand) o idleThread (s .threads) (s .sizes .threads) 8 (h .ranged .shape .threads)
             (stays .some) (hands-empty s h o (stays .some)) (omega arith) t less (b .threads) e,
@@ -178,7 +176,7 @@ module _ (s : State) (o : ℕ) (stays : Stays s o) where
   the-carrier t less e =
       let b = bounds (s .sizes) (h .ranged .sizes) in
       let total = sum in
-      let one = carried-in s h o (stays .some) (stays .most) t (omega (arith, b .threads)) e in (
+      let one = carried-in s h o (stays .some) (stays .most) t less e in (
         one,
         rows.is-found (λ (x : Thread). carriedBy (x .phase)) o idleThread (s .threads) (s .sizes .threads) 8
             (h .ranged .shape .threads) (stays .some) (carry-none s h o (stays .some)) (omega arith) t less (b .threads) e,
@@ -189,7 +187,7 @@ module _ (s : State) (o : ℕ) (stays : Stays s o) where
   the-handover p less e =
       let b = bounds (s .sizes) (h .ranged .sizes) in
       let total = sum in
-      let one = handover-in s h o (stays .some) (stays .most) p (omega (arith, b .positions)) e in (
+      let one = handover-in s h o (stays .some) (stays .most) p less e in (
         one,
         rows.is-found (λ (x : Slot). x .handover) o emptySlot (s .slots) (positions (s .sizes)) 32 (h .ranged .shape .slots)
             (stays .some) (handovers-empty s h o (stays .some)) (omega arith) p less (b .positions) e,
@@ -205,11 +203,10 @@ module _ (s : State) (o : ℕ) (stays : Stays s o) where
       ap Hand (it .1) ∙
       sym (is-hand (links-past (omega (arith, it .0))) (subst (λ (k : ℕ). k < s .sizes .threads) (it .1) (a .0)))
   only-one (Carried t p) a =
-      let phase = carried-is o p (phaseOf s t) (a .1) in
-      let it = the-carrier t (a .0) (phase .0) in
+      let it = the-carrier t (a .0) (a .1 .0) in
       let total = sum in
-      ap (Carried t) (sym (phase .1)) ∙
-      ap (λ (k : ℕ). Carried k (carriedAt (phaseOf s k))) (it .1) ∙
+      ap (Carried t) (sym (a .1 .1)) ∙
+      ap (λ (k : ℕ). Carried k (scansAt (phaseOf s k))) (it .1) ∙
       sym
       (is-carrier (links-past (omega (arith, it .0))) (hands-past (omega (arith, it .0)))
       (subst (λ (k : ℕ). k < s .sizes .threads) (it .1) (a .0)))

@@ -8,8 +8,8 @@ use Rattle.machine.specs.declared.State.{State}
 use Rattle.machine.specs.Parts.{freeAt}
 use Rattle.entries.specs.Sizes.{within}
 use Rattle.machine.specs.Soundness.{sound}
-use Rattle.machine.specs.Refusals.{firstOf}
-use Rattle.laws.specs.Lemmas.Bools.{ands}
+use Rattle.basics.specs.Rows.{firstOf}
+use Rattle.basics.specs.Tests.{ands}
 use Rattle.reasons.specs.Reasons.{refusals, refusalOf}
 use Rattle.reasons.specs.Applies.{Stays}
 

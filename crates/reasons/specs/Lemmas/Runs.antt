@@ -10,36 +10,23 @@ use borrow.Author.Tests.{ltb-true, ltb-false}
 use Rattle.entries.specs.declared.Sizes.{Sizes}
 use Rattle.machine.specs.declared.State.{State}
 use Rattle.machine.specs.declared.Call.{Call}
-use Rattle.entries.specs.declared.Phase.{Phase}
-use Rattle.entries.specs.declared.Phase.the-variants.{Idle, Loaded, Published, Draining, Look, Swap}
 use Rattle.entries.specs.Sizes.{inRange, positions}
 use Rattle.machine.specs.Parts.{slotAt, phaseOf}
-use Rattle.laws.specs.Lemmas.Bools.{tested}
-use Rattle.laws.specs.Lemmas.Ranged.{from-sound}
-use Rattle.promise.specs.Run.{machine}
-use Rattle.promise.specs.Lemmas.Guarded.{scanAt, Guard, marked-object}
-use Rattle.promise.specs.Lemmas.Whole.{invariant, same-sizes}
+use Rattle.basics.specs.Tests.{tested}
+use Rattle.machine.specs.Sound.{from-sound, marked-object}
+use Rattle.promise.specs.Run.{state}
+use Rattle.promise.specs.Guard.{Guard}
+use Rattle.promise.specs.Moments.{same-sizes, always-sound, always-guarded}
 use Rattle.reasons.specs.declared.Reason.{Reason}
 use Rattle.reasons.specs.declared.Reason.the-variants.{Link, Hand, Carried, Handover}
 use Rattle.reasons.specs.declared.Hazard.{Hazard}
 use Rattle.reasons.specs.declared.Hazard.the-variants.{At, Nowhere}
-use Rattle.reasons.specs.Reasons.{carriedAt, reasonOf, hazardOf, whyOf}
+use Rattle.reasons.specs.Reasons.{reasonOf, hazardOf, whyOf}
 use Rattle.reasons.specs.Numbers.{reasonNumber, reasonA, reasonB, hazardNumber, hazardPosition, numbersOf, Sheltered}
 use Rattle.reasons.specs.Applies.{Stays, Applies, FirstHazard}
-use Rattle.reasons.specs.Lemmas.Cases.{carried-is}
 use Rattle.reasons.specs.Lemmas.Named.{named-applies}
 use Rattle.reasons.specs.Lemmas.Hazards.{first-hazard}
 use Rattle.reasons.specs.Lemmas.Told.{explained}
-
--- both files speak of the same position of a carrying thread
-same-scan : (phase : Phase) → scanAt phase ≡ carriedAt phase
-unfolding scanAt carriedAt
-same-scan Idle = refl
-same-scan (Loaded slot link object) = refl
-same-scan (Published slot link) = refl
-same-scan (Draining slot) = refl
-same-scan (Look object position) = refl
-same-scan (Swap object position) = refl
 
 module _ (s : State) (p : ℕ) (inside : p < positions (s .sizes)) (g : Guard s p ((slotAt s p) .hazard)) where
   abbrev o : ℕ
@@ -64,9 +51,8 @@ module _ (s : State) (p : ℕ) (inside : p < positions (s .sizes)) (g : Guard s 
   carried-below (Link i) a e = absurd (omega arith)
   carried-below (Hand t) a e = absurd (omega arith)
   carried-below (Carried t q) a e =
-      let phase = carried-is _ q (phaseOf s t) (a .1) in
-      let same = same-scan (phaseOf s t) ∙ phase .1 in
-      let below = g .carried t (a .0) (phase .0) in
+      let at = a .1 .1 in
+      let below = g .carried t (a .0) (a .1 .0) in
       omega arith
   carried-below (Handover q guard) a e = absurd (omega arith)
 
@@ -95,13 +81,13 @@ module _ (s : State) (p : ℕ) (inside : p < positions (s .sizes)) (g : Guard s 
       })
 
 pub sheltered : (z : Sizes) → inRange z ≡ true → (calls : List Call) (p : ℕ) → p < positions z
-    → (slotAt (machine z calls) p) .mark ≡ true
-    → Sheltered (numbersOf (whyOf (machine z calls) ((slotAt (machine z calls) p) .hazard))) p
+    → (slotAt (state z calls) p) .mark ≡ true
+    → Sheltered (numbersOf (whyOf (state z calls) ((slotAt (state z calls) p) .hazard))) p
 sheltered z h calls p less marked =
-    let s = machine z calls in
-    let inv = invariant z h calls in
+    let s = state z calls in
+    let fine = always-sound z h calls in
     let inside : p < positions (s .sizes) = subst (λ (y : Sizes). p < positions y) (sym (same-sizes z h calls)) less in
-    let g = inv .guarded p inside marked in
-    let object = marked-object s (inv .sound .ranged) p inside marked in
+    let g = always-guarded z h calls p inside marked in
+    let object = marked-object s (fine .ranged) p inside marked in
     read s p inside g
-    (record { sound = from-sound s (inv .sound); some = object .0; most = object .1; kept = g .kept })
+    (record { sound = from-sound s (fine); some = object .0; most = object .1; kept = g .kept })

@@ -7,16 +7,12 @@ use mathlib.Core.Logic.{⊎-elim, _↔_}
 use lib.Dec.{eqb}
 use borrow.Author.Tests.{eqb-false, ne-eqb}
 use Rattle.machine.specs.declared.State.{State}
-use Rattle.machine.specs.Parts.{slotAt, freeAt}
-use Rattle.entries.specs.Sizes.{positions}
-use Rattle.machine.specs.Soundness.{sound, places}
-use Rattle.entries.specs.Entries.{bit}
-use Rattle.laws.specs.First.{FirstIs, here, later}
-use Rattle.laws.specs.Lemmas.Bools.{tested}
-use Rattle.laws.specs.Lemmas.Ranged.{Sound, to-sound}
-use Rattle.laws.specs.Lemmas.Good.{Bounds, bounds}
-use Rattle.laws.specs.Lemmas.Rows.{first-is, first-some}
-use Rattle.promise.specs.Lemmas.OnePlace.{one-place, link-not-free, hand-not-free, carried-not-free, handover-in}
+use Rattle.machine.specs.Parts.{freeAt}
+use Rattle.machine.specs.Soundness.{sound}
+use Rattle.basics.specs.Rows.{FirstIs, here, later, first-is, first-some}
+use Rattle.basics.specs.Tests.{tested}
+use Rattle.machine.specs.Sound.{Sound, to-sound}
+use Rattle.laws.specs.OnePlace.{link-not-free, hand-not-free, carried-not-free, handover-not-free}
 use Rattle.reasons.specs.declared.Reason.{Reason}
 use Rattle.reasons.specs.declared.Reason.the-variants.{Link, Hand, Carried, Handover}
 use Rattle.reasons.specs.declared.Hazard.{Hazard}
@@ -26,33 +22,18 @@ use Rattle.reasons.specs.Reasons.{reasonOf, hazardOf, refusals, refusalO
 use Rattle.reasons.specs.Numbers.{numbersOf}
 use Rattle.reasons.specs.Applies.{Stays, Applies, FirstHazard}
 use Rattle.reasons.specs.Lemmas.NotRefused.{not-refused}
-use Rattle.reasons.specs.Lemmas.Cases.{carried-is}
 use Rattle.reasons.specs.Lemmas.Named.{only-one}
 use Rattle.reasons.specs.Lemmas.Hazards.{only-hazard}
 
--- a free object is in no handover either
-handover-not-free : (s : State) → Sound s → (o : ℕ) → 0 < o → o ≤ s .sizes .objects → (p : ℕ) → p < 32
-    → (slotAt s p) .handover ≡ o → freeAt s o ≡ true → ⊥
-unfolding places bit
-handover-not-free s h o some most p less e free =
-    let one = rw free at (one-place s h o some most) in
-    let there = handover-in s h o some most p less e in
-    omega arith
-
 pub free-has-none : (s : State) → sound s ≡ true → (o : ℕ) → 0 < o → o ≤ s .sizes .objects → freeAt s o ≡ true
     → (r : Reason) → Applies s o r → ⊥
-free-has-none s fine o some most free r a =
-    let h = to-sound s fine in
-    let b = bounds (s .sizes) (h .ranged .sizes) in
-    by-case h b r a
+free-has-none s fine o some most free r a = by-case (to-sound s fine) r a
   where
-    by-case : (h : Sound s) → Bounds (s .sizes) → (r : Reason) → Applies s o r → ⊥
-    by-case h b (Link i) a = false≢true (sym (link-not-free s h o some most i (omega (arith, a .0, b .links)) (a .1)) ∙ free)
-    by-case h b (Hand t) a = false≢true (sym (hand-not-free s h o some most t (omega (arith, a .0, b .threads)) (a .1)) ∙ free)
-    by-case h b (Carried t p) a =
-        false≢true
-        (sym (carried-not-free s h o some most t (omega (arith, a .0, b .threads)) (carried-is o p _ (a .1) .0)) ∙ free)
-    by-case h b (Handover p g) a = handover-not-free s h o some most p (omega (arith, a .0, b .positions)) (a .1 .0) free
+    by-case : (h : Sound s) (r : Reason) → Applies s o r → ⊥
+    by-case h (Link i) a = false≢true (sym (link-not-free s h o some most i (a .0) (a .1)) ∙ free)
+    by-case h (Hand t) a = false≢true (sym (hand-not-free s h o some most t (a .0) (a .1)) ∙ free)
+    by-case h (Carried t p) a = false≢true (sym (carried-not-free s h o some most t (a .0) (a .1 .0)) ∙ free)
+    by-case h (Handover p g) a = false≢true (sym (handover-not-free s h o some most p (a .0) (a .1 .0)) ∙ free)
 
 pub explained : (s : State) (o : ℕ) → Stays s o → whyOf s o ≡ Kept (reasonOf s o) (hazardOf s o)
 unfolding whyOf

@@ -1,4 +1,4 @@
--- `sentences::tell` meets its contract: where there is room, what `put_text` writes at place 0. Assumes nothing.
+-- `sentences::tell` meets its contract: where there is room, what `put_text` writes at place 0.
 use Prim.Native.Nat.{zero-le}
 use native.Mathlib.Omega.{arith}
 use mathlib.Core.Path.{_∙_}

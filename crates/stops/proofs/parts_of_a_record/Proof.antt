@@ -1,4 +1,4 @@
--- `stops::parts_of_a_record` is safe and ends: the loop's measure is how many sizes are left. Assumes nothing.
+-- `stops::parts_of_a_record` is safe and ends: the loop's measure is how many sizes are left.
 use Prim.Native.Nat.{_-_}
 use native.Mathlib.Omega.{arith}
 use borrow.Author.Needs.{needs}

@@ -1,4 +1,4 @@
--- `why::main` meets its contract: each part of the buffer that is written out is as long as was answered. Assumes nothing.
+-- `why::main` meets its contract: each part of the buffer that is written out is as long as was answered.
 use mathlib.Core.Path.{sym}
 use lib.Seq.{length-take-le}
 use borrow.Author.Needs.{needs}

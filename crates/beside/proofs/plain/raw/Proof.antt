@@ -1,4 +1,4 @@
--- `beside::plain::raw` is safe and ends: each turn of its loop counts one up to a fixed bound. Assumes nothing.
+-- `beside::plain::raw` is safe and ends: each turn of its loop counts one up to a fixed bound.
 use borrow.Author.Needs.{needs}
 use Prim.Native.Nat.{_≤_, _-_}
 use Rattle.beside.proofs.plain.raw.Statement.{statement}
@@ -18,6 +18,9 @@ Inv-loop2 s r₀ p₀ r p = p ≤ 32
 
 abbrev μ-loop2 : tie.MeasureT-loop2
 μ-loop2 s r₀ p₀ r p = 32 - p
+
+free-of-requires : tie.Need-free-of-requires Inv-loop μ-loop Inv-loop2 μ-loop2
+free-of-requires c κs = search needs
 
 empty-requires : tie.Need-empty-requires Inv-loop μ-loop Inv-loop2 μ-loop2
 empty-requires c κs = search needs
@@ -49,8 +52,8 @@ element-write-r c = search needs
 task-of-requires : tie.Need-task-of-requires Inv-loop μ-loop Inv-loop2 μ-loop2
 task-of-requires c κs = search needs
 
-mul-t16 : tie.Need-mul-t16 Inv-loop μ-loop Inv-loop2 μ-loop2
-mul-t16 c = search needs
+mul-t17 : tie.Need-mul-t17 Inv-loop μ-loop Inv-loop2 μ-loop2
+mul-t17 c = search needs
 
 element-set-from-r : tie.Need-element-set-from-r Inv-loop μ-loop Inv-loop2 μ-loop2
 element-set-from-r c = search needs
@@ -102,6 +105,7 @@ raw-spec =
     μ-loop
     Inv-loop2
     μ-loop2
+    free-of-requires
     empty-requires
     wide-requires
     wide-requires-2
@@ -112,7 +116,7 @@ raw-spec =
     element-copy-out-thread
     element-write-r
     task-of-requires
-    mul-t16
+    mul-t17
     element-set-from-r
     add-t
     loop-less

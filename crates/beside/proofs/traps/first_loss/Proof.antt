@@ -1,4 +1,4 @@
--- `beside::traps::first_loss` is safe and ends: each turn of its loop counts one up to a fixed bound. Assumes nothing.
+-- `beside::traps::first_loss` is safe and ends: each turn of its loop counts one up to a fixed bound.
 use borrow.Author.Needs.{needs}
 use Prim.Native.Nat.{_≤_, _-_}
 use Rattle.beside.proofs.traps.first_loss.Statement.{statement}

@@ -4,21 +4,22 @@ use mathlib.Core.Path.{_≡_, refl, sym}
 use mathlib.Core.Bool.{true}
 use native.Mathlib.Omega.{arith}
 use lib.ListN.{getD}
-use Rattle.entries.specs.Entries.{below, linkGood}
-use Rattle.entries.proofs.Flags.{refused, passed}
-use Rattle.entries.proofs.Below.{below-more, below-fails, below-fewer}
+use Rattle.basics.specs.Under.{allUnder}
+use Rattle.entries.specs.Entries.{linkGood}
+use Rattle.basics.specs.Tests.{refused, passed}
+use Rattle.basics.specs.Under.{under-more, under-fails, under-fewer}
 use borrow.Author.Needs.{needs}
 use Rattle.entries.proofs.good.links_good.Statement.{statement}
 use Rattle.entries.proofs.good.links_good.Tie as tie
 
 abbrev Inv-loop : tie.InvT-loop
-Inv-loop z links i₀ i = (i ≤ 16) × (below i (λ k. linkGood z k (getD links k 0)) ≡ true)
+Inv-loop z links i₀ i = (i ≤ 16) × (allUnder i (λ k. linkGood z k (getD links k 0)) ≡ true)
 
 abbrev μ-loop : tie.MeasureT-loop
 μ-loop z links i₀ i = 16 - i
 
 loop-holds : tie.Need-loop-holds Inv-loop μ-loop
-unfolding below
+unfolding allUnder
 loop-holds c = (omega arith, refl)
 
 array-read-link-good : tie.Need-array-read-link-good Inv-loop μ-loop
@@ -28,7 +29,7 @@ link-good-requires : tie.Need-link-good-requires Inv-loop μ-loop
 link-good-requires c κs = search needs
 
 returns : tie.Need-returns Inv-loop μ-loop
-returns c = sym (below-fails (c .before .before .before .loop .i) 16 _ (omega arith) (refused (c .before .link-good .ensures) (c .if1 .taken)))
+returns c = sym (under-fails (c .before .before .before .loop .i) 16 _ (omega arith) (refused (c .before .link-good .ensures) (c .if1 .taken)))
 
 add-i : tie.Need-add-i Inv-loop μ-loop
 add-i c = omega arith
@@ -37,10 +38,10 @@ loop-less : tie.Need-loop-less Inv-loop μ-loop
 loop-less c = omega arith
 
 loop-again : tie.Need-loop-again Inv-loop μ-loop
-loop-again c = (omega arith, below-more (c .before .before .before .loop .i) _ (c .before .before .before .loop .inv .1) (passed (c .before .link-good .ensures) (c .if1 .left)))
+loop-again c = (omega arith, under-more (c .before .before .before .loop .i) _ (c .before .before .before .loop .inv .1) (passed (c .before .link-good .ensures) (c .if1 .left)))
 
 returns-2 : tie.Need-returns-2 Inv-loop μ-loop
-returns-2 c = sym (below-fewer 16 (c .before .loop .i) _ (omega arith) (c .before .loop .inv .1))
+returns-2 c = sym (under-fewer 16 (c .before .loop .i) _ (omega arith) (c .before .loop .inv .1))
 
 pub links-good-spec : {M : Type 1} → statement M
 links-good-spec =

@@ -5,14 +5,15 @@ use mathlib.Core.Bool.{_||_}
 use native.Mathlib.Omega.{arith}
 use lib.ListN.{getD}
 use lib.Dec.{ltb, eqb}
-use Rattle.entries.specs.Entries.{below, tagGood}
-use Rattle.entries.proofs.Below.{beyond-none, beyond-next, beyond-end}
+use Rattle.basics.specs.Under.{allUnder}
+use Rattle.entries.specs.Entries.{tagGood}
+use Rattle.basics.specs.Under.{beyond-none, beyond-next, beyond-end}
 use borrow.Author.Needs.{needs}
 use Rattle.entries.proofs.good.tags_good.Statement.{statement}
 use Rattle.entries.proofs.good.tags_good.Tie as tie
 
 abbrev Inv-loop : tie.InvT-loop
-Inv-loop tags good₀ k₀ good k = (k₀ ≤ k) × (240 < k → k ≡ k₀) × (good ≡ below k (λ k. ltb k k₀ || eqb (getD tags k 0) 0))
+Inv-loop tags good₀ k₀ good k = (k₀ ≤ k) × (240 < k → k ≡ k₀) × (good ≡ allUnder k (λ k. ltb k k₀ || eqb (getD tags k 0) 0))
 
 abbrev μ-loop : tie.MeasureT-loop
 μ-loop tags good₀ k₀ good k = 240 - k

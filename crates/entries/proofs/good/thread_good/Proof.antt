@@ -2,8 +2,8 @@
 use mathlib.Core.Path.{sym, _∙_}
 use native.Mathlib.Omega.{arith}
 use borrow.Author.Tests.{lt-ltb, le-ltb, le-leb, lt-leb, eq-eqb, ne-eqb}
-use Rattle.entries.specs.Entries.{threadGood}
-use Rattle.entries.proofs.Flags.{and-not, and-then}
+use Rattle.entries.specs.Entries.{threadInRange, threadEmpty, threadGood}
+use Rattle.basics.specs.Tests.{and-not, and-then}
 use borrow.Author.Needs.{needs}
 use Rattle.entries.proofs.good.thread_good.Statement.{statement}
 use Rattle.entries.proofs.good.thread_good.Tie as tie
@@ -18,28 +18,28 @@ is-idle-requires : tie.Need-is-idle-requires
 is-idle-requires c κs = search needs
 
 returns : tie.Need-returns
-unfolding threadGood
+unfolding threadGood threadInRange threadEmpty
 returns c =
     let a = c .before .before .before .before .before .args in
     rw (lt-ltb (a .t) (a .z .threads) (omega arith))
     (sym (and-then (le-leb _ _ (c .before .if2 .taken)) (sym (c .phase-in-range .ensures))))
 
 returns-2 : tie.Need-returns-2
-unfolding threadGood
+unfolding threadGood threadInRange threadEmpty
 returns-2 c =
     let a = c .before .before .before .before .args in
     let no = lt-leb _ _ (c .if2 .left) in
     rw (lt-ltb (a .t) (a .z .threads) (omega arith)) (no ∙ sym (and-not _ no))
 
 returns-3 : tie.Need-returns-3
-unfolding threadGood
+unfolding threadGood threadInRange threadEmpty
 returns-3 c =
     let a = c .before .before .before .before .args in
     rw (le-ltb (a .t) (a .z .threads) (omega arith))
     (sym (and-then (eq-eqb _ _ (c .before .if3 .taken)) (sym (c .is-idle .ensures))))
 
 returns-4 : tie.Need-returns-4
-unfolding threadGood
+unfolding threadGood threadInRange threadEmpty
 returns-4 c =
     let a = c .before .before .before .args in
     let no = ne-eqb _ _ (c .if3 .left) in

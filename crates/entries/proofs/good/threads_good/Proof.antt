@@ -4,21 +4,22 @@ use mathlib.Core.Path.{_≡_, refl, sym}
 use mathlib.Core.Bool.{true}
 use native.Mathlib.Omega.{arith}
 use lib.ListN.{getD}
-use Rattle.entries.specs.Entries.{idleThread, below, threadGood}
-use Rattle.entries.proofs.Flags.{refused, passed}
-use Rattle.entries.proofs.Below.{below-more, below-fails, below-fewer}
+use Rattle.basics.specs.Under.{allUnder}
+use Rattle.entries.specs.Entries.{idleThread, threadGood}
+use Rattle.basics.specs.Tests.{refused, passed}
+use Rattle.basics.specs.Under.{under-more, under-fails, under-fewer}
 use borrow.Author.Needs.{needs}
 use Rattle.entries.proofs.good.threads_good.Statement.{statement}
 use Rattle.entries.proofs.good.threads_good.Tie as tie
 
 abbrev Inv-loop : tie.InvT-loop
-Inv-loop z threads t₀ t = (t ≤ 8) × (below t (λ k. threadGood z k (getD threads k idleThread)) ≡ true)
+Inv-loop z threads t₀ t = (t ≤ 8) × (allUnder t (λ k. threadGood z k (getD threads k idleThread)) ≡ true)
 
 abbrev μ-loop : tie.MeasureT-loop
 μ-loop z threads t₀ t = 8 - t
 
 loop-holds : tie.Need-loop-holds Inv-loop μ-loop
-unfolding below
+unfolding allUnder
 loop-holds c = (omega arith, refl)
 
 mul-thread : tie.Need-mul-thread Inv-loop μ-loop
@@ -31,7 +32,7 @@ thread-good-requires : tie.Need-thread-good-requires Inv-loop μ-loop
 thread-good-requires c κs = search needs
 
 returns : tie.Need-returns Inv-loop μ-loop
-returns c = sym (below-fails (c .before .before .before .before .loop .t) 8 _ (omega arith) (refused (c .before .thread-good .ensures) (c .if1 .taken)))
+returns c = sym (under-fails (c .before .before .before .before .loop .t) 8 _ (omega arith) (refused (c .before .thread-good .ensures) (c .if1 .taken)))
 
 add-t : tie.Need-add-t Inv-loop μ-loop
 add-t c = omega arith
@@ -40,10 +41,10 @@ loop-less : tie.Need-loop-less Inv-loop μ-loop
 loop-less c = omega arith
 
 loop-again : tie.Need-loop-again Inv-loop μ-loop
-loop-again c = (omega arith, below-more (c .before .before .before .before .loop .t) _ (c .before .before .before .before .loop .inv .1) (passed (c .before .thread-good .ensures) (c .if1 .left)))
+loop-again c = (omega arith, under-more (c .before .before .before .before .loop .t) _ (c .before .before .before .before .loop .inv .1) (passed (c .before .thread-good .ensures) (c .if1 .left)))
 
 returns-2 : tie.Need-returns-2 Inv-loop μ-loop
-returns-2 c = sym (below-fewer 8 (c .before .loop .t) _ (omega arith) (c .before .loop .inv .1))
+returns-2 c = sym (under-fewer 8 (c .before .loop .t) _ (omega arith) (c .before .loop .inv .1))
 
 pub threads-good-spec : {M : Type 1} → statement M
 threads-good-spec =

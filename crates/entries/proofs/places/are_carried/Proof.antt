@@ -4,15 +4,16 @@ use mathlib.Core.Path.{_≡_, refl, ap, _∙_}
 use native.Mathlib.Omega.{arith}
 use lib.ListN.{length, take}
 use Rattle.entries.specs.declared.Thread.{Thread}
-use Rattle.entries.specs.Entries.{idleThread, bit, howMany, some}
+use Rattle.basics.specs.Counts.{bit, howMany}
+use Rattle.entries.specs.Entries.{idleThread, isObject}
 use Rattle.entries.specs.Phases.{carriedBy}
-use Rattle.entries.proofs.HowMany.{count-next, count-more, count-all}
+use Rattle.basics.specs.Counts.{count-next, count-more, count-all}
 use borrow.Author.Needs.{needs}
 use Rattle.entries.proofs.places.are_carried.Statement.{statement}
 use Rattle.entries.proofs.places.are_carried.Tie as tie
 
 abbrev Inv-loop : tie.InvT-loop
-Inv-loop threads n₀ i₀ n i = (i ≤ 8) × (n ≡ howMany (λ (thread : Thread). some (carriedBy (thread .phase))) (take i threads))
+Inv-loop threads n₀ i₀ n i = (i ≤ 8) × (n ≡ howMany (λ (thread : Thread). isObject (carriedBy (thread .phase))) (take i threads))
 
 abbrev μ-loop : tie.MeasureT-loop
 μ-loop threads n₀ i₀ n i = 8 - i
@@ -37,7 +38,7 @@ add-n : tie.Need-add-n Inv-loop μ-loop
 add-n c =
     let l = c .before .before .before .before .loop in
     let a = c .before .before .before .before .before .args in
-    record { fits = omega (arith, count-next (λ (thread : Thread). some (carriedBy (thread .phase))) (a .t1) (l .i) (l .n) (l .inv .1) idleThread (c .bit .result) (c .bit .ensures ∙ ap (λ (object : ℕ). bit (some object)) (c .before .carried .ensures))) }
+    record { fits = omega (arith, count-next (λ (thread : Thread). isObject (carriedBy (thread .phase))) (a .t1) (l .i) (l .n) (l .inv .1) idleThread (c .bit .result) (c .bit .ensures ∙ ap (λ (object : ℕ). bit (isObject object)) (c .before .carried .ensures))) }
 
 add-i : tie.Need-add-i Inv-loop μ-loop
 add-i c = omega arith
@@ -50,14 +51,14 @@ loop-again c =
     let l = c .before .before .before .before .loop in
     let a = c .before .before .before .before .before .args in
     let long : length (a .t1) ≡ 8 = search needs in
-    (omega arith, count-more (λ (thread : Thread). some (carriedBy (thread .phase))) (a .t1) (l .i) (l .n) (l .inv .1) idleThread (c .bit .result) (omega arith) (c .bit .ensures ∙ ap (λ (object : ℕ). bit (some object)) (c .before .carried .ensures)))
+    (omega arith, count-more (λ (thread : Thread). isObject (carriedBy (thread .phase))) (a .t1) (l .i) (l .n) (l .inv .1) idleThread (c .bit .result) (omega arith) (c .bit .ensures ∙ ap (λ (object : ℕ). bit (isObject object)) (c .before .carried .ensures)))
 
 returns : tie.Need-returns Inv-loop μ-loop
 returns c =
     let l = c .before .loop in
     let a = c .before .before .args in
     let long : length (a .t1) ≡ 8 = search needs in
-    count-all (λ (thread : Thread). some (carriedBy (thread .phase))) (a .t1) (l .i) (l .n) (l .inv .1) (omega arith)
+    count-all (λ (thread : Thread). isObject (carriedBy (thread .phase))) (a .t1) (l .i) (l .n) (l .inv .1) (omega arith)
 
 pub are-carried-spec : {M : Type 1} → statement M
 are-carried-spec =

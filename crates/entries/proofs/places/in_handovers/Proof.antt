@@ -4,14 +4,15 @@ use mathlib.Core.Path.{_≡_, refl}
 use native.Mathlib.Omega.{arith}
 use lib.ListN.{length, take}
 use Rattle.entries.specs.declared.Slot.{Slot}
-use Rattle.entries.specs.Entries.{emptySlot, howMany, some}
-use Rattle.entries.proofs.HowMany.{count-next, count-more, count-all}
+use Rattle.basics.specs.Counts.{howMany}
+use Rattle.entries.specs.Entries.{emptySlot, isObject}
+use Rattle.basics.specs.Counts.{count-next, count-more, count-all}
 use borrow.Author.Needs.{needs}
 use Rattle.entries.proofs.places.in_handovers.Statement.{statement}
 use Rattle.entries.proofs.places.in_handovers.Tie as tie
 
 abbrev Inv-loop : tie.InvT-loop
-Inv-loop slots n₀ i₀ n i = (i ≤ 32) × (n ≡ howMany (λ (slot : Slot). some (slot .handover)) (take i slots))
+Inv-loop slots n₀ i₀ n i = (i ≤ 32) × (n ≡ howMany (λ (slot : Slot). isObject (slot .handover)) (take i slots))
 
 abbrev μ-loop : tie.MeasureT-loop
 μ-loop slots n₀ i₀ n i = 32 - i
@@ -33,7 +34,7 @@ add-n : tie.Need-add-n Inv-loop μ-loop
 add-n c =
     let l = c .before .before .before .before .loop in
     let a = c .before .before .before .before .before .args in
-    record { fits = omega (arith, count-next (λ (slot : Slot). some (slot .handover)) (a .t1) (l .i) (l .n) (l .inv .1) emptySlot (c .bit .result) (c .bit .ensures)) }
+    record { fits = omega (arith, count-next (λ (slot : Slot). isObject (slot .handover)) (a .t1) (l .i) (l .n) (l .inv .1) emptySlot (c .bit .result) (c .bit .ensures)) }
 
 add-i : tie.Need-add-i Inv-loop μ-loop
 add-i c = omega arith
@@ -46,14 +47,14 @@ loop-again c =
     let l = c .before .before .before .before .loop in
     let a = c .before .before .before .before .before .args in
     let long : length (a .t1) ≡ 32 = search needs in
-    (omega arith, count-more (λ (slot : Slot). some (slot .handover)) (a .t1) (l .i) (l .n) (l .inv .1) emptySlot (c .bit .result) (omega arith) (c .bit .ensures))
+    (omega arith, count-more (λ (slot : Slot). isObject (slot .handover)) (a .t1) (l .i) (l .n) (l .inv .1) emptySlot (c .bit .result) (omega arith) (c .bit .ensures))
 
 returns : tie.Need-returns Inv-loop μ-loop
 returns c =
     let l = c .before .loop in
     let a = c .before .before .args in
     let long : length (a .t1) ≡ 32 = search needs in
-    count-all (λ (slot : Slot). some (slot .handover)) (a .t1) (l .i) (l .n) (l .inv .1) (omega arith)
+    count-all (λ (slot : Slot). isObject (slot .handover)) (a .t1) (l .i) (l .n) (l .inv .1) (omega arith)
 
 pub in-handovers-spec : {M : Type 1} → statement M
 in-handovers-spec =

@@ -3,14 +3,15 @@ use Prim.Native.Nat.{_≤_, _-_}
 use mathlib.Core.Path.{_≡_, refl}
 use native.Mathlib.Omega.{arith}
 use lib.ListN.{length, take}
-use Rattle.entries.specs.Entries.{howMany, some}
-use Rattle.entries.proofs.HowMany.{count-next, count-more, count-all}
+use Rattle.basics.specs.Counts.{howMany}
+use Rattle.entries.specs.Entries.{isObject}
+use Rattle.basics.specs.Counts.{count-next, count-more, count-all}
 use borrow.Author.Needs.{needs}
 use Rattle.entries.proofs.places.in_links.Statement.{statement}
 use Rattle.entries.proofs.places.in_links.Tie as tie
 
 abbrev Inv-loop : tie.InvT-loop
-Inv-loop links n₀ i₀ n i = (i ≤ 16) × (n ≡ howMany some (take i links))
+Inv-loop links n₀ i₀ n i = (i ≤ 16) × (n ≡ howMany isObject (take i links))
 
 abbrev μ-loop : tie.MeasureT-loop
 μ-loop links n₀ i₀ n i = 16 - i
@@ -29,7 +30,7 @@ add-n : tie.Need-add-n Inv-loop μ-loop
 add-n c =
     let l = c .before .before .loop in
     let a = c .before .before .before .args in
-    record { fits = omega (arith, count-next some (a .t1) (l .i) (l .n) (l .inv .1) 0 (c .bit .result) (c .bit .ensures)) }
+    record { fits = omega (arith, count-next isObject (a .t1) (l .i) (l .n) (l .inv .1) 0 (c .bit .result) (c .bit .ensures)) }
 
 add-i : tie.Need-add-i Inv-loop μ-loop
 add-i c = omega arith
@@ -42,14 +43,14 @@ loop-again c =
     let l = c .before .before .loop in
     let a = c .before .before .before .args in
     let long : length (a .t1) ≡ 16 = search needs in
-    (omega arith, count-more some (a .t1) (l .i) (l .n) (l .inv .1) 0 (c .bit .result) (omega arith) (c .bit .ensures))
+    (omega arith, count-more isObject (a .t1) (l .i) (l .n) (l .inv .1) 0 (c .bit .result) (omega arith) (c .bit .ensures))
 
 returns : tie.Need-returns Inv-loop μ-loop
 returns c =
     let l = c .before .loop in
     let a = c .before .before .args in
     let long : length (a .t1) ≡ 16 = search needs in
-    count-all some (a .t1) (l .i) (l .n) (l .inv .1) (omega arith)
+    count-all isObject (a .t1) (l .i) (l .n) (l .inv .1) (omega arith)
 
 pub in-links-spec : {M : Type 1} → statement M
 in-links-spec =

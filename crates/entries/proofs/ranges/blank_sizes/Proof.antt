@@ -2,7 +2,7 @@
 use mathlib.Core.Path.{refl, sym}
 use borrow.Author.Tests.{eq-eqb, ne-eqb}
 use Rattle.entries.specs.Sizes.{allZero}
-use Rattle.entries.proofs.Flags.{and-so, and-not, and-then}
+use Rattle.basics.specs.Tests.{and-i, and-not, and-then}
 use Rattle.entries.proofs.ranges.blank_sizes.Statement.{statement}
 use Rattle.entries.proofs.ranges.blank_sizes.Tie as tie
 
@@ -16,15 +16,15 @@ returns-2 c = sym (and-not _ (and-not _ (and-then (eq-eqb _ _ (c .before .before
 
 returns-3 : tie.Need-returns-3
 unfolding allZero
-returns-3 c = sym (and-not _ (and-then (and-so (eq-eqb _ _ (c .before .before .before .before .if1 .left)) (eq-eqb _ _ (c .before .before .if2 .left))) (ne-eqb _ _ (c .if3 .taken))))
+returns-3 c = sym (and-not _ (and-then (and-i (eq-eqb _ _ (c .before .before .before .before .if1 .left)) (eq-eqb _ _ (c .before .before .if2 .left))) (ne-eqb _ _ (c .if3 .taken))))
 
 returns-4 : tie.Need-returns-4
 unfolding allZero
 returns-4 c =
     sym
     (and-then
-    (and-so
-    (and-so
+    (and-i
+    (and-i
     (eq-eqb _ _ (c .before .before .before .before .before .if1 .left))
     (eq-eqb _ _ (c .before .before .before .if2 .left)))
     (eq-eqb _ _ (c .before .if3 .left)))

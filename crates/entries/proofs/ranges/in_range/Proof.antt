@@ -2,7 +2,7 @@
 use mathlib.Core.Path.{sym}
 use borrow.Author.Needs.{needs}
 use Rattle.entries.specs.Sizes.{inRange}
-use Rattle.entries.proofs.Flags.{refused, passed, and-so, and-not, and-then}
+use Rattle.basics.specs.Tests.{refused, passed, and-i, and-not, and-then}
 use Rattle.entries.proofs.ranges.in_range.Statement.{statement}
 use Rattle.entries.proofs.ranges.in_range.Tie as tie
 
@@ -32,7 +32,7 @@ returns-3 c =
     let b = c .before .before in
     let p1 = passed (b .before .before .before .within .ensures) (b .before .before .if1 .left) in
     let p2 = passed (b .before .within2 .ensures) (b .if2 .left) in
-    sym (and-not _ (and-then (and-so p1 p2) (refused (c .before .within3 .ensures) (c .if3 .taken))))
+    sym (and-not _ (and-then (and-i p1 p2) (refused (c .before .within3 .ensures) (c .if3 .taken))))
 
 within-requires-4 : tie.Need-within-requires-4
 within-requires-4 c κs = search needs
@@ -44,7 +44,7 @@ returns-4 c =
     let p1 = passed (b .before .before .before .before .before .within .ensures) (b .before .before .before .before .if1 .left) in
     let p2 = passed (b .before .before .before .within2 .ensures) (b .before .before .if2 .left) in
     let p3 = passed (b .before .within3 .ensures) (b .if3 .left) in
-    sym (and-then (and-so (and-so p1 p2) p3) (sym (c .within4 .ensures)))
+    sym (and-then (and-i (and-i p1 p2) p3) (sym (c .within4 .ensures)))
 
 pub in-range-spec : {M : Type 1} → statement M
 in-range-spec =

@@ -1,6 +1,6 @@
 -- `look_in_range` meets its contract: both tests, in order.
 use mathlib.Core.Path.{refl, sym, _∙_}
-use Rattle.entries.proofs.Flags.{and-not, and-then}
+use Rattle.basics.specs.Tests.{and-not, and-then}
 use borrow.Author.Needs.{needs}
 use Rattle.entries.proofs.ranges.look_in_range.Statement.{statement}
 use Rattle.entries.proofs.ranges.look_in_range.Tie as tie

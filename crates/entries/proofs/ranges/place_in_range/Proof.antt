@@ -1,7 +1,7 @@
 -- `place_in_range` meets its contract: both tests, in order.
 use mathlib.Core.Path.{refl, sym, _∙_}
 use borrow.Author.Tests.{lt-ltb, le-ltb}
-use Rattle.entries.proofs.Flags.{and-not, and-then}
+use Rattle.basics.specs.Tests.{and-not, and-then}
 use Rattle.entries.proofs.ranges.place_in_range.Statement.{statement}
 use Rattle.entries.proofs.ranges.place_in_range.Tie as tie
 

@@ -7,7 +7,7 @@ use Rattle.entries.specs.Phases.{carriedBy}
 use Rattle.entries.specs.declared.Thread.{Thread}
 use Rattle.entries.specs.Entries.{idleThread}
 use Rattle.entries.specs.Tally.{tally, tallied}
-use Rattle.entries.proofs.Counting.{room, counted, all-counted}
+use Rattle.entries.specs.Counting.{room, counted, all-counted}
 use borrow.Author.Needs.{needs}
 use Rattle.entries.proofs.tally.count_carried.Statement.{statement}
 use Rattle.entries.proofs.tally.count_carried.Tie as tie

@@ -6,7 +6,7 @@ use lib.ListN.{length, take}
 use Rattle.entries.specs.declared.Slot.{Slot}
 use Rattle.entries.specs.Entries.{emptySlot}
 use Rattle.entries.specs.Tally.{tallied}
-use Rattle.entries.proofs.Counting.{room, counted, all-counted}
+use Rattle.entries.specs.Counting.{room, counted, all-counted}
 use borrow.Author.Needs.{needs}
 use Rattle.entries.proofs.tally.count_handovers.Statement.{statement}
 use Rattle.entries.proofs.tally.count_handovers.Tie as tie

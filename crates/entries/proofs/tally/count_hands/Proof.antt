@@ -6,7 +6,7 @@ use lib.ListN.{length, take}
 use Rattle.entries.specs.declared.Thread.{Thread}
 use Rattle.entries.specs.Entries.{idleThread}
 use Rattle.entries.specs.Tally.{tallied}
-use Rattle.entries.proofs.Counting.{room, counted, all-counted}
+use Rattle.entries.specs.Counting.{room, counted, all-counted}
 use borrow.Author.Needs.{needs}
 use Rattle.entries.proofs.tally.count_hands.Statement.{statement}
 use Rattle.entries.proofs.tally.count_hands.Tie as tie

@@ -4,7 +4,7 @@ use mathlib.Core.Path.{_≡_, refl}
 use native.Mathlib.Omega.{arith}
 use lib.ListN.{length, take}
 use Rattle.entries.specs.Tally.{tallied}
-use Rattle.entries.proofs.Counting.{room, counted, all-counted}
+use Rattle.entries.specs.Counting.{room, counted, all-counted}
 use borrow.Author.Needs.{needs}
 use Rattle.entries.proofs.tally.count_links.Statement.{statement}
 use Rattle.entries.proofs.tally.count_links.Tie as tie

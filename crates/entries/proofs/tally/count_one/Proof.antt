@@ -4,7 +4,7 @@ use mathlib.Core.Path.{sym}
 use native.Mathlib.Omega.{arith}
 use borrow.Author.Tests.{eq-eqb, ne-eqb}
 use Rattle.entries.specs.Tally.{tally}
-use Rattle.entries.proofs.Counting.{tally-past}
+use Rattle.entries.specs.Counting.{tally-past}
 use borrow.Author.Needs.{needs}
 use Rattle.entries.proofs.tally.count_one.Statement.{statement}
 use Rattle.entries.proofs.tally.count_one.Tie as tie

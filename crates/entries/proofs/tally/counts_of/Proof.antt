@@ -7,7 +7,7 @@ use Rattle.entries.specs.declared.Thread.{Thread}
 use Rattle.entries.specs.declared.Slot.{Slot}
 use Rattle.entries.specs.Phases.{carriedBy}
 use Rattle.entries.specs.Tally.{tallied}
-use Rattle.entries.proofs.Counting.{Counts, none-counted, more-counted, enough}
+use Rattle.entries.specs.Counting.{Counts, none-counted, more-counted, enough}
 use Rattle.entries.proofs.tally.counts_of.Statement.{statement}
 use Rattle.entries.proofs.tally.counts_of.Tie as tie
 

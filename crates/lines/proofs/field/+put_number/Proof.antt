@@ -1,5 +1,5 @@
 -- The proof of the cycle of calls {put_number}. The measure is the number. Its digits are those of a tenth of it, which the call of itself
--- writes, and the last one. Assumes nothing.
+-- writes, and the last one.
 use mathlib.Core.Path.{ap}
 use mathlib.Core.List.{[], _∷_, _++_}
 use native.Mathlib.Omega.{arith}

@@ -1,4 +1,4 @@
--- `lines::field::put_field` meets its contract: what `put_number` writes, and then one byte. Assumes nothing.
+-- `lines::field::put_field` meets its contract: what `put_number` writes, and then one byte.
 use mathlib.Core.List.{[], _∷_}
 use native.Mathlib.Omega.{arith}
 use lib.ListN.{length-append}

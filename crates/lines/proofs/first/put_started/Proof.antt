@@ -1,4 +1,4 @@
--- `lines::first::put_started` meets its contract: the sizes' line and the steps' text after it, or the line that stops the run. Assumes nothing.
+-- `lines::first::put_started` meets its contract: the sizes' line and the steps' text after it, or the line that stops the run.
 use native.Mathlib.Omega.{arith}
 use Rattle.lines.proofs.Appending.{then}
 use Rattle.lines.proofs.Runs.{good-text, refused-text}

@@ -1,4 +1,4 @@
--- `lines::first::put_text` meets its contract: each arm knows the first record, and writes the text that `linesFirst` has for it. Assumes nothing.
+-- `lines::first::put_text` meets its contract: each arm knows the first record, and writes the text that `linesFirst` has for it.
 use mathlib.Core.Path.{sym, _∙_}
 use Rattle.lines.specs.Run.{linesFirst}
 use Rattle.lines.proofs.Runs.{one-line, first-text}

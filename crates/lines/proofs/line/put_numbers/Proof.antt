@@ -1,4 +1,4 @@
--- `lines::line::put_numbers` meets its contract. The invariant: the fields from the i-th number on are still to come. Assumes nothing.
+-- `lines::line::put_numbers` meets its contract. The invariant: the fields from the i-th number on are still to come.
 use Prim.Native.Nat.{_+_, _-_, _≤_}
 use mathlib.Core.Path.{_≡_, _∙_}
 use mathlib.Core.List.{[], _∷_, _++_, map}

@@ -1,4 +1,4 @@
--- `lines::line::put_word` meets its contract. The invariant: what is left of the word, and the space, are still to come. Assumes nothing.
+-- `lines::line::put_word` meets its contract. The invariant: what is left of the word, and the space, are still to come.
 use Prim.Native.Nat.{_+_, _-_, _≤_}
 use mathlib.Core.Path.{_≡_, _∙_}
 use mathlib.Core.List.{[], _∷_, _++_}

@@ -1,4 +1,4 @@
--- `lines::steps::put_last` meets its contract: each arm knows what was read, and writes the line that `lastLine` has for it. Assumes nothing.
+-- `lines::steps::put_last` meets its contract: each arm knows what was read, and writes the line that `lastLine` has for it.
 use Rattle.lines.specs.Run.{lastLine}
 use borrow.Author.Needs.{needs}
 use Rattle.lines.proofs.steps.put_last.Statement.{statement}

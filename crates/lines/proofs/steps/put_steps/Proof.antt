@@ -1,5 +1,5 @@
 -- `lines::steps::put_steps` meets its contract. The invariant: the text from the present state and the bytes that are left is still to come;
--- each step so far took at most 40 bytes. Assumes nothing.
+-- each step so far took at most 40 bytes.
 use Prim.Native.Nat.{ℕ, _+_, _-_, _*_, _≤_}
 use mathlib.Core.Path.{_≡_, sym, _∙_}
 use mathlib.Core.List.{_++_}

@@ -1,4 +1,4 @@
--- `lines::told::put_sizes` meets its contract: it hands over the numbers of `sizesLine`. Assumes nothing.
+-- `lines::told::put_sizes` meets its contract: it hands over the numbers of `sizesLine`.
 use Prim.Native.Nat.{_+_, _≤_}
 use native.Mathlib.Omega.{arith}
 use lib.ListN.{length}

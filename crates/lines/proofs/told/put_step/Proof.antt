@@ -1,4 +1,4 @@
--- `lines::told::put_step` meets its contract: it hands over the numbers of `stepLine`, the answer's as `told_as` gives them. Assumes nothing.
+-- `lines::told::put_step` meets its contract: it hands over the numbers of `stepLine`, the answer's as `told_as` gives them.
 use Prim.Native.Nat.{ℕ, _+_, _≤_}
 use mathlib.Core.Path.{_≡_}
 use mathlib.Core.List.{[], _∷_, map}

@@ -1,4 +1,4 @@
--- `lines::told::put_stop` meets its contract: the word, a space and then the numbers of `stopLine`. Assumes nothing.
+-- `lines::told::put_stop` meets its contract: the word, a space and then the numbers of `stopLine`.
 use Prim.Native.Nat.{ℕ, _+_, _≤_}
 use mathlib.Core.Path.{_≡_}
 use mathlib.Core.List.{List, [], _∷_, _++_, map}

@@ -1,5 +1,4 @@
 -- `lines::told::told_as` meets its contract: each arm knows which answer it has, and the numbers of that answer are those that it makes.
--- Assumes nothing.
 use mathlib.Core.Path.{ap}
 use Rattle.machine.specs.Answers.{numbersOf}
 use borrow.Author.Needs.{needs}

@@ -1,73 +1,68 @@
 -- `done` picks the call by its number. What each call asks follows from the lines of the table that did not apply.
+use Prim.Native.Nat.{_<_}
+use native.Mathlib.Omega.{arith}
 use mathlib.Core.Path.{_≡_}
+use mathlib.Core.Bool.{true, false}
 use borrow.Author.Tests.{ne-eqb}
-use Rattle.machine.specs.Refusals.{usesSlot, usesLink, withoutSlot}
+use Rattle.entries.specs.Sizes.{positions}
+use Rattle.machine.specs.Parts.{positionOf}
+use Rattle.machine.specs.Sound.{Ranged, from-sound, limits, thread-eight, link-sixteen, position-32, its-position, marked-object}
+use Rattle.machine.specs.Refusals.{usesSlot, usesLink, withoutSlot, readsSlot}
+use Rattle.machine.specs.Accepted.{Accepted, accepted}
 use Rattle.machine.specs.Step.{doneOf}
-use Rattle.machine.proofs.Accepted.{accepted, small-thread, small-link, small-position, read-object}
 use Rattle.machine.proofs.State.done.Statement.{statement}
 use Rattle.machine.proofs.State.done.Tie as tie
 
+module _ (c : tie.Start) where
+  may : Accepted (c .args .self) (c .args .call)
+  may = accepted _ _ (c .pre)
+
+  ranged : Ranged (c .args .self)
+  ranged = may .sound .ranged
+
+  small : c .args .call .thread < 8
+  small = thread-eight _ ranged _ (may .fields .thread)
+
+  link : usesLink (c .args .call .operation) ≡ true → c .args .call .link < 16
+  link uses = link-sixteen _ ranged _ (may .fields .link uses)
+
+  inside : usesSlot (c .args .call .operation) ≡ true → withoutSlot (c .args .call) ≡ false
+      → positionOf (c .args .self) (c .args .call .thread) (c .args .call .slot) < positions (c .args .self .sizes)
+  inside uses named = its-position _ ranged _ _ (may .fields .thread) (may .fields .slot uses named)
+
 take-requires : tie.Need-take-requires
-take-requires c κs =
-    let s = c .before .args .self in
-    let call = c .before .args .call in
-    let e = c .before .pre in
-    let op : call .operation ≡ 1 = c .match .keys1 in
-    (small-thread s call e, accepted s call e .free op)
+take-requires c κs = (small (c .before), omega (arith, may (c .before) .objects .free (c .match .keys1)))
 
 protect-requires : tie.Need-protect-requires
 unfolding usesLink
-protect-requires c κs =
-    let s = c .before .args .self in
-    let call = c .before .args .call in
-    let e = c .before .pre in
-    let op : call .operation ≡ 2 = c .match .keys2 in
-    (small-thread s call e, small-link s call e (rw op))
+protect-requires c κs = (small (c .before), link (c .before) (rw (c .match .keys2)))
 
 swap-requires : tie.Need-swap-requires
 unfolding usesSlot usesLink withoutSlot
 swap-requires c κs =
-    let s = c .before .args .self in
-    let call = c .before .args .call in
-    let e = c .before .pre in
-    let op : call .operation ≡ 3 = c .match .keys3 in (
-      (small-thread s call e, small-link s call e (rw op)),
-      λ named. small-position s call e (rw op) (rw (op, ne-eqb (call .slot) 255 named)),
+    let op = c .match .keys3 in (
+      (small (c .before), link (c .before) (rw op)),
+      λ named. position-32 _ (ranged (c .before)) _ (inside (c .before) (rw op) (rw (op, ne-eqb _ _ named))),
     )
 
 read-requires : tie.Need-read-requires
-unfolding usesSlot withoutSlot
+unfolding usesSlot withoutSlot readsSlot
 read-requires c κs =
-    let s = c .before .args .self in
-    let call = c .before .args .call in
-    let e = c .before .pre in
-    let op : call .operation ≡ 4 = c .match .keys4 in
-    let held = read-object s call e op in
-    (small-position s call e (rw op) (rw op), (held .1, held .0))
-
-retire-requires : tie.Need-retire-requires
-retire-requires c κs =
-    let s = c .before .args .self in
-    let call = c .before .args .call in
-    let e = c .before .pre in
-    let op : call .operation ≡ 5 = c .match .keys5 in
-    small-thread s call e
+    let op = c .match .keys4 in
+    let r = ranged (c .before) in
+    let at = inside (c .before) (rw op) (rw op) in
+    let b = limits _ r in
+    let held = marked-object _ r _ at (may (c .before) .objects .marked (rw op)) in
+    (position-32 _ r _ at, (omega arith, held .0))
 
 clear-requires : tie.Need-clear-requires
 unfolding usesSlot withoutSlot
 clear-requires c κs =
-    let s = c .before .args .self in
-    let call = c .before .args .call in
-    let e = c .before .pre in
-    let op : call .operation ≡ 6 = c .match .keys6 in
-    (small-thread s call e, small-position s call e (rw op) (rw op))
+    let op = c .match .keys6 in
+    (small (c .before), position-32 _ (ranged (c .before)) _ (inside (c .before) (rw op) (rw op)))
 
 go-on-requires : tie.Need-go-on-requires
-go-on-requires c κs =
-    let s = c .before .args .self in
-    let call = c .before .args .call in
-    let e = c .before .pre in
-    (accepted s call e .is-sound, accepted s call e .thread)
+go-on-requires c κs = (from-sound _ (may (c .before) .sound), may (c .before) .fields .thread)
 
 returns : tie.Need-returns
 unfolding doneOf
@@ -115,7 +110,7 @@ done-spec =
     protect-requires
     swap-requires
     read-requires
-    retire-requires
+    (λ c κs. small (c .before))
     clear-requires
     go-on-requires
     returns

@@ -1,81 +1,61 @@
 -- `go_on` picks the case by the phase. Soundness says that what the phase carries is in range, which is what each case asks.
-use mathlib.Core.Path.{_∙_}
+use Prim.Native.Nat.{ℕ, _<_}
+use native.Mathlib.Omega.{arith}
+use mathlib.Core.Path.{_≡_, _∙_}
+use mathlib.Core.Bool.{true}
 use borrow.Author.Needs.{needs}
+use Rattle.entries.specs.declared.Phase.{Phase}
+use Rattle.entries.specs.Phases.{phaseInRange}
+use Rattle.entries.specs.PhaseFacts.{loaded-facts, published-facts, draining-facts, look-facts, swap-facts}
+use Rattle.machine.specs.Parts.{phaseOf, positionOf}
+use Rattle.machine.specs.Sound.{Ranged, to-sound, limits, thread-eight, link-sixteen, position-32, position-fits, link-holds, its-phase}
 use Rattle.machine.specs.GoOn.{goOnOf, goOnFrom}
-use Rattle.machine.proofs.Bounds.{thread-limited, link-limited, positions-limited, link-object}
-use Rattle.machine.proofs.PhaseBounds.{loaded, published, draining, looking, swapping}
 use Rattle.machine.proofs.State.go_on.Statement.{statement}
 use Rattle.machine.proofs.State.go_on.Tie as tie
 
-mul-me : tie.Need-mul-me
-mul-me c = search needs
+module _ (c : tie.Start) where
+  ranged : Ranged (c .args .t1)
+  ranged = to-sound _ (c .pre .0) .ranged
 
-element-copy-out-me : tie.Need-element-copy-out-me
-element-copy-out-me c = thread-limited (c .args .t1) (c .pre .0) (c .args .thread) (c .pre .1)
+  small : c .args .thread < 8
+  small = thread-eight _ ranged _ (c .pre .1)
 
-enum-told : tie.Need-enum-told
-enum-told c = search needs
+  inside : (slot : ℕ) → slot < c .args .t1 .sizes .slots → positionOf (c .args .t1) (c .args .thread) slot < 32
+  inside slot h = position-fits _ ranged _ slot (c .pre .1) h
 
-enum-known-phase : tie.Need-enum-known-phase
-enum-known-phase c = search needs
+  in-range : (phase : Phase) → phaseOf (c .args .t1) (c .args .thread) ≡ phase → phaseInRange (c .args .t1 .sizes) phase ≡ true
+  in-range phase e = rw e at (its-phase _ ranged _ (c .pre .1))
 
 publish-requires : tie.Need-publish-requires
 publish-requires c κs =
-    let s = c .before .before .before .before .args .t1 in
-    let h = c .before .before .before .before .pre .0 in
-    let t = c .before .before .before .before .args .thread in
-    let lt = c .before .before .before .before .pre .1 in
-    let small = thread-limited s h t lt in
-    (small, loaded s h t lt _ _ _ (c .before .phase .given .1))
-
-enum-known-phase-2 : tie.Need-enum-known-phase-2
-enum-known-phase-2 c = search needs
+    let start = c .before .before .before .before in
+    (small start, inside start _ (loaded-facts _ _ _ _ (in-range start _ (c .before .phase .given .1)) .0))
 
 confirm-requires : tie.Need-confirm-requires
 confirm-requires c κs =
-    let s = c .before .before .before .before .args .t1 in
-    let h = c .before .before .before .before .pre .0 in
-    let t = c .before .before .before .before .args .thread in
-    let lt = c .before .before .before .before .pre .1 in
-    let small = thread-limited s h t lt in
-    let fields = published s h t lt _ _ (c .before .phase2 .given .1) in
-    ((small, link-limited s h _ (fields .1)), (fields .0, link-object s h _ (fields .1)))
-
-enum-known-phase-3 : tie.Need-enum-known-phase-3
-enum-known-phase-3 c = search needs
+    let start = c .before .before .before .before in
+    let r = ranged start in
+    let facts = published-facts _ _ _ (in-range start _ (c .before .phase2 .given .1)) in
+    let b = limits _ r in
+    let held = link-holds _ r _ (facts .1) in
+    ((small start, link-sixteen _ r _ (facts .1)), (inside start _ (facts .0), omega arith))
 
 drain-requires : tie.Need-drain-requires
 drain-requires c κs =
-    let s = c .before .before .before .before .args .t1 in
-    let h = c .before .before .before .before .pre .0 in
-    let t = c .before .before .before .before .args .thread in
-    let lt = c .before .before .before .before .pre .1 in
-    let small = thread-limited s h t lt in
-    (small, draining s h t lt _ (c .before .phase3 .given .1))
-
-enum-known-phase-4 : tie.Need-enum-known-phase-4
-enum-known-phase-4 c = search needs
+    let start = c .before .before .before .before in
+    (small start, inside start _ (draining-facts _ _ (in-range start _ (c .before .phase3 .given .1))))
 
 look-requires : tie.Need-look-requires
 look-requires c κs =
-    let s = c .before .before .before .before .args .t1 in
-    let h = c .before .before .before .before .pre .0 in
-    let t = c .before .before .before .before .args .thread in
-    let lt = c .before .before .before .before .pre .1 in
-    let small = thread-limited s h t lt in
-    ((small, positions-limited s h), looking s h t lt _ _ (c .before .phase4 .given .1))
-
-enum-known-phase-5 : tie.Need-enum-known-phase-5
-enum-known-phase-5 c = search needs
+    let start = c .before .before .before .before in
+    let b = limits _ (ranged start) in
+    let scan = look-facts _ _ _ (in-range start _ (c .before .phase4 .given .1)) .0 in
+    ((small start, b .positions), (scan .some, omega arith))
 
 hand-over-requires : tie.Need-hand-over-requires
 hand-over-requires c κs =
-    let s = c .before .before .before .before .args .t1 in
-    let h = c .before .before .before .before .pre .0 in
-    let t = c .before .before .before .before .args .thread in
-    let lt = c .before .before .before .before .pre .1 in
-    let small = thread-limited s h t lt in
-    (small, swapping s h t lt _ _ (c .before .phase5 .given .1))
+    let start = c .before .before .before .before in
+    (small start, position-32 _ (ranged start) _ (swap-facts _ _ _ (in-range start _ (c .before .phase5 .given .1)) .1))
 
 returns : tie.Need-returns
 unfolding goOnOf goOnFrom
@@ -105,18 +85,18 @@ pub go-on-spec : {M : Type 1} → statement M
 go-on-spec =
     tie.close
     (tie.spec
-    mul-me
-    element-copy-out-me
-    enum-told
-    enum-known-phase
+    (λ c. search needs)
+    small
+    (λ c. search needs)
+    (λ c. search needs)
     publish-requires
-    enum-known-phase-2
+    (λ c. search needs)
     confirm-requires
-    enum-known-phase-3
+    (λ c. search needs)
     drain-requires
-    enum-known-phase-4
+    (λ c. search needs)
     look-requires
-    enum-known-phase-5
+    (λ c. search needs)
     hand-over-requires
     returns
     returns-2

@@ -5,26 +5,8 @@ use Rattle.machine.specs.Calls.{readOf}
 use Rattle.machine.proofs.State.read.Statement.{statement}
 use Rattle.machine.proofs.State.read.Tie as tie
 
-position-requires : tie.Need-position-requires
-position-requires c κs = search needs
-
-cast-p : tie.Need-cast-p
-cast-p c = search needs
-
-mul-held : tie.Need-mul-held
-mul-held c = search needs
-
-element-copy-out-held : tie.Need-element-copy-out-held
-element-copy-out-held c = search needs
-
-cast-o : tie.Need-cast-o
-cast-o c = search needs
-
 sub-o : tie.Need-sub-o
 sub-o c = rw (c .before .before .position .ensures) (c .before .before .before .pre .1 .1)
-
-mul-tag : tie.Need-mul-tag
-mul-tag c = search needs
 
 element-copy-out-tag : tie.Need-element-copy-out-tag
 element-copy-out-tag c = rw (c .before .before .position .ensures) (omega (arith, c .before .before .before .pre .1))
@@ -37,12 +19,12 @@ pub read-spec : {M : Type 1} → statement M
 read-spec =
     tie.close
     (tie.spec
-    position-requires
-    cast-p
-    mul-held
-    element-copy-out-held
-    cast-o
+    (λ c κs. search needs)
+    (λ c. search needs)
+    (λ c. search needs)
+    (λ c. search needs)
+    (λ c. search needs)
     sub-o
-    mul-tag
+    (λ c. search needs)
     element-copy-out-tag
     returns)

@@ -1,117 +1,123 @@
--- `refusal` asks the table run by run: 19, then the fields, then the thread, then the objects.
+-- `refusal` asks the table group by group: 19, then the fields, then the thread, then the objects.
+use mathlib.Core.Path.{_≡_, refl, sym, _∙_}
 use mathlib.Core.Bool.{true}
-use mathlib.Core.Path.{_≡_, sym, _∙_}
-use lib.ListN.{drop}
+use borrow.Author.Tests.{eq-eqb, ne-eqb}
 use borrow.Author.Needs.{needs}
+use Rattle.basics.specs.Tests.{refused, passed}
+use Rattle.basics.specs.Rows.{firstOf, NoneApplies, allFrom, none-applies, stops, goes-on}
+use Rattle.machine.specs.Parts.{threadAt, slotAt, positionOf}
 use Rattle.machine.specs.Soundness.{sound}
-use Rattle.machine.specs.Calls.{nextFree}
-use Rattle.machine.specs.Refusals.{firstOf, protectedAt, refusalOf}
-use Rattle.entries.proofs.Flags.{refused, passed}
-use Rattle.machine.proofs.Bounds.{thread-limited, position-limited}
-use Rattle.machine.proofs.Table.{NoneApplies, fieldRows, objectRows, settled, fields-pass, unsound, by-fields, by-threads, after-threads}
-use Rattle.machine.proofs.Accepted.{thread-below, slot-below, names-slot}
+use Rattle.machine.specs.Sound.{Ranged, to-sound, thread-eight, position-fits}
+use Rattle.machine.specs.Refusals.{fieldRows, threadRows, objectRows, callRows, refusalOf}
+use Rattle.machine.specs.Accepted.{FieldsPass, fields-pass, names-slot, refused-unsound, else-the-rest}
 use Rattle.machine.proofs.State.refusal.Statement.{statement}
 use Rattle.machine.proofs.State.refusal.Tie as tie
 
--- What each test that was passed says.
+-- What each group that was passed says.
 
-past-19 : (c : tie.Else1) → sound (c .before .before .args .t1) ≡ true
-past-19 c = passed (c .before .is-sound .ensures) (c .if1 .left)
+good : (c : tie.Else1) → sound (c .before .before .args .t1) ≡ true
+good c = passed (c .before .is-sound .ensures) (c .if1 .left)
 
-past-25 : (c : tie.Else2) → firstOf (fieldRows (c .before .before .before .before .before .args .t1 .sizes) (c .before .before .before .before .before .args .call)) ≡ 0
-past-25 c = settled _ _ (c .before .field-refusal .ensures) (c .if2 .left)
+abbrev from2 : tie.Else2 → tie.Start
+from2 c = c .before .before .before .before .before
 
-past-29 : (c : tie.Else3) → refusalOf (c .before .before .before .before .before .before .before .before .before .args .t1) (c .before .before .before .before .before .before .before .before .before .args .call) ≡ firstOf (objectRows (c .before .before .before .before .before .before .before .before .before .args .t1) (c .before .before .before .before .before .before .before .before .before .args .call))
-past-29 c =
-    after-threads (c .before .before .before .before .before .before .before .before .before .args .t1) (c .before .before .before .before .before .before .before .before .before .args .call) (past-19 (c .before .before .before .before .before .before .before)) (past-25 (c .before .before .before .before))
-    (settled _ _ (c .before .thread-refusal .ensures) (c .if3 .left))
+no-field : (c : tie.Else2) → NoneApplies (fieldRows (from2 c .args .t1 .sizes) (from2 c .args .call))
+unfolding fieldRows allFrom
+no-field c = none-applies _ refl (sym (c .before .field-refusal .ensures) ∙ c .if2 .left)
 
-past-31 : (c : tie.Else4) → refusalOf (c .before .before .before .before .before .before .before .before .before .before .before .before .args .t1) (c .before .before .before .before .before .before .before .before .before .before .before .before .args .call) ≡ firstOf (drop 1 (objectRows (c .before .before .before .before .before .before .before .before .before .before .before .before .args .t1) (c .before .before .before .before .before .before .before .before .before .before .before .before .args .call)))
-unfolding firstOf protectedAt
-past-31 c = past-29 (c .before .before .before) ∙ rw (← (c .before .unprotected .ensures), c .if4 .left)
+fields : (c : tie.Else2) → FieldsPass (from2 c .args .t1 .sizes) (from2 c .args .call)
+fields c = fields-pass _ _ (no-field c)
 
-is-sound-requires : tie.Need-is-sound-requires
-is-sound-requires c κs = search needs
+ranged : (c : tie.Else2) → Ranged (from2 c .args .t1)
+ranged c = to-sound _ (good (c .before .before .before)) .ranged
+
+abbrev from3 : tie.Else3 → tie.Start
+from3 c = from2 (c .before .before .before .before)
+
+no-thread : (c : tie.Else3) → NoneApplies (threadRows (threadAt (from3 c .args .t1) (from3 c .args .call .thread)) (from3 c .args .call .operation))
+unfolding threadRows allFrom
+no-thread c = none-applies _ refl (sym (c .before .thread-refusal .ensures) ∙ c .if3 .left)
 
 returns : tie.Need-returns
-returns c = sym (unsound (c .before .before .args .t1) (c .before .before .args .call) (refused (c .before .is-sound .ensures) (c .if1 .taken)))
-
-field-refusal-requires : tie.Need-field-refusal-requires
-field-refusal-requires c κs = search needs
+returns c = sym (refused-unsound _ _ (refused (c .before .is-sound .ensures) (c .if1 .taken)))
 
 returns-2 : tie.Need-returns-2
+unfolding callRows
 returns-2 c =
-    by-fields (c .before .before .before .before .before .args .t1) (c .before .before .before .before .before .args .call) (past-19 (c .before .before .before))
-    (c .before .field-refusal .result)
-    (c .before .field-refusal .ensures)
-    (c .if2 .taken)
-
-cast-t : tie.Need-cast-t
-cast-t c = search needs
-
-mul-me : tie.Need-mul-me
-mul-me c = search needs
+    let field = c .before .field-refusal .ensures in
+    rw (else-the-rest _ _ (good (c .before .before .before)), stops _ _ (λ none. c .if2 .taken (field ∙ none))) field
 
 element-copy-out-me : tie.Need-element-copy-out-me
-unfolding NoneApplies
-element-copy-out-me c =
-    let s = c .before .before .before .before .before .before .args .t1 in
-    let call = c .before .before .before .before .before .before .args .call in
-    let none = fields-pass (s .sizes) call (past-25 (c .before)) in
-    thread-limited s (past-19 (c .before .before .before .before)) (call .thread) (thread-below (call .thread) (s .sizes .threads) (none .0))
-
-thread-refusal-requires : tie.Need-thread-refusal-requires
-thread-refusal-requires c κs = search needs
+element-copy-out-me c = thread-eight _ (ranged (c .before)) _ (fields (c .before) .thread)
 
 returns-3 : tie.Need-returns-3
+unfolding callRows
 returns-3 c =
-    by-threads (c .before .before .before .before .before .before .before .before .before .args .t1) (c .before .before .before .before .before .before .before .before .before .args .call) (past-19 (c .before .before .before .before .before .before .before)) (past-25 (c .before .before .before .before))
-    (c .before .thread-refusal .result)
-    (c .before .thread-refusal .ensures)
-    (c .if3 .taken)
+    let e2 = c .before .before .before .before in
+    let busy = c .before .thread-refusal .ensures in
+    rw (else-the-rest _ _ (good (e2 .before .before .before)), goes-on _ (no-field e2), stops _ _ (λ none. c .if3 .taken (busy ∙ none))) busy
 
 unprotected-requires : tie.Need-unprotected-requires
-unfolding NoneApplies
 unprotected-requires c κs =
-    let s = c .before .before .before .before .before .before .before .before .before .before .args .t1 in
-    let call = c .before .before .before .before .before .before .before .before .before .before .args .call in
-    let none = fields-pass (s .sizes) call (past-25 (c .before .before .before .before .before)) in
+    let e2 = c .before .before .before .before .before in
     λ reads.
-    let named = names-slot call reads in
-    position-limited s (past-19 (c .before .before .before .before .before .before .before .before)) (call .thread) (call .slot)
-    (thread-below (call .thread) (s .sizes .threads) (none .0))
-    (slot-below call (s .sizes .slots) (none .1 .1 .1 .0) (named .0) (named .1))
+    let names = names-slot _ reads in
+    position-fits _ (ranged e2) _ _ (fields e2 .thread) (fields e2 .slot (names .0) (names .1))
+
+-- the last group decides
+rest : (c : tie.Else3)
+    → (let s = from3 c .args .t1 in
+    let call = from3 c .args .call in
+    refusalOf s call ≡ firstOf (objectRows (slotAt s (positionOf s (call .thread) (call .slot))) (s .pool) call))
+unfolding callRows
+rest c =
+    let e2 = c .before .before .before .before in
+    rw (else-the-rest _ _ (good (e2 .before .before .before)), goes-on _ (no-field e2), goes-on _ (no-thread c))
 
 returns-4 : tie.Need-returns-4
-unfolding firstOf protectedAt
-returns-4 c = sym (past-29 (c .before .before .before) ∙ rw (← (c .before .unprotected .ensures), c .if4 .taken))
-
-none-free-requires : tie.Need-none-free-requires
-none-free-requires c κs = search needs
+unfolding firstOf objectRows
+returns-4 c = sym (rest (c .before .before .before) ∙ rw (← (c .before .unprotected .ensures), c .if4 .taken))
 
 returns-5 : tie.Need-returns-5
-unfolding firstOf nextFree
-returns-5 c = sym (past-31 (c .before .before .before .before) ∙ rw (← (c .before .none-free .ensures), c .if5 .taken))
+unfolding firstOf objectRows
+returns-5 c =
+    let e5 = c .before .before .before in
+    let e4 = e5 .before .before in
+    sym
+    (rest (e4 .before .before .before) ∙
+    rw (← (e4 .before .unprotected .ensures), e4 .if4 .left, eq-eqb _ _ (e5 .if5 .taken), ← (c .before .next .ensures .0), eq-eqb _ _ (c .if6 .taken)))
 
 returns-6 : tie.Need-returns-6
-unfolding firstOf nextFree
-returns-6 c = sym (past-31 (c .before .before .before .before) ∙ rw (← (c .before .none-free .ensures), c .if5 .left))
+unfolding firstOf objectRows
+returns-6 c =
+    let e5 = c .before .before .before in
+    let e4 = e5 .before .before in
+    sym
+    (rest (e4 .before .before .before) ∙
+    rw (← (e4 .before .unprotected .ensures), e4 .if4 .left, eq-eqb _ _ (e5 .if5 .taken), ← (c .before .next .ensures .0), ne-eqb _ _ (c .if6 .left)))
+
+returns-7 : tie.Need-returns-7
+unfolding firstOf objectRows
+returns-7 c =
+    let e4 = c .before .before in
+    sym (rest (e4 .before .before .before) ∙ rw (← (e4 .before .unprotected .ensures), e4 .if4 .left, ne-eqb _ _ (c .if5 .left)))
 
 pub refusal-spec : {M : Type 1} → statement M
 refusal-spec =
     tie.close
     (tie.spec
-    is-sound-requires
+    (λ c κs. search needs)
     returns
-    field-refusal-requires
+    (λ c κs. search needs)
     returns-2
-    cast-t
-    mul-me
+    (λ c. search needs)
+    (λ c. search needs)
     element-copy-out-me
-    thread-refusal-requires
+    (λ c κs. search needs)
     returns-3
     unprotected-requires
     returns-4
-    none-free-requires
+    (λ c κs. search needs)
     returns-5
-    returns-6)
+    returns-6
+    returns-7)

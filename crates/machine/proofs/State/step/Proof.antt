@@ -5,19 +5,13 @@ use Rattle.machine.specs.Step.{stepOf}
 use Rattle.machine.proofs.State.step.Statement.{statement}
 use Rattle.machine.proofs.State.step.Tie as tie
 
-refusal-requires : tie.Need-refusal-requires
-refusal-requires c κs = search needs
-
 returns : tie.Need-returns
 unfolding stepOf
 returns c = rw (← (c .before .refusal .ensures), ne-eqb _ _ (c .if1 .taken))
-
-done-requires : tie.Need-done-requires
-done-requires c κs = search needs
 
 returns-2 : tie.Need-returns-2
 unfolding stepOf
 returns-2 c = rw (← (c .before .before .refusal .ensures), eq-eqb _ _ (c .before .if1 .left)) (c .done .ensures)
 
 pub step-spec : {M : Type 1} → statement M
-step-spec = tie.close (tie.spec refusal-requires returns done-requires returns-2)
+step-spec = tie.close (tie.spec (λ c κs. search needs) returns (λ c κs. search needs) returns-2)

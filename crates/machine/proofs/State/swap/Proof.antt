@@ -8,12 +8,12 @@ use Rattle.machine.proofs.State.swap.Tie as tie
 element-copy-out-there : tie.Need-element-copy-out-there
 element-copy-out-there c = search needs
 
-wanted-requires : tie.Need-wanted-requires
-wanted-requires c κs = search needs
+expected-requires : tie.Need-expected-requires
+expected-requires c κs = search needs
 
 returns : tie.Need-returns
 unfolding swapOf expected
-returns c = rw (← (c .before .wanted .ensures), ne-eqb _ _ (c .if1 .taken))
+returns c = rw (← (c .before .expected .ensures), ne-eqb _ _ (c .if1 .taken))
 
 mul-me : tie.Need-mul-me
 mul-me c = search needs
@@ -32,14 +32,14 @@ element-write-next c = search needs
 
 returns-2 : tie.Need-returns-2
 unfolding swapOf expected
-returns-2 c = rw (← (c .before .before .wanted .ensures), eq-eqb _ _ (c .before .if1 .left))
+returns-2 c = rw (← (c .before .before .expected .ensures), eq-eqb _ _ (c .before .if1 .left))
 
 pub swap-spec : {M : Type 1} → statement M
 swap-spec =
     tie.close
     (tie.spec
     element-copy-out-there
-    wanted-requires
+    expected-requires
     returns
     mul-me
     element-copy-out-me

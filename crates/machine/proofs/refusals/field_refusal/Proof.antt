@@ -1,70 +1,60 @@
 -- `field_refusal` is the lines 21 to 25 in their order.
+use Prim.Native.Nat.{ℕ}
 use mathlib.Core.Path.{_≡_, sym, _∙_}
 use lib.ListN.{drop}
 use borrow.Author.Tests.{lt-ltb, le-ltb}
 use borrow.Author.Needs.{needs}
-use Rattle.machine.specs.Refusals.{firstOf}
-use Rattle.machine.proofs.Table.{fieldRows}
+use Rattle.basics.specs.Rows.{firstOf}
+use Rattle.machine.specs.Refusals.{fieldRows}
 use Rattle.machine.proofs.refusals.field_refusal.Statement.{statement}
 use Rattle.machine.proofs.refusals.field_refusal.Tie as tie
 
--- Past each line the rest of the table decides.
+-- past each line the rest of the table decides
+abbrev Past : ℕ → tie.Start → Type 0
+Past n c = firstOf (fieldRows (c .args .sizes) (c .args .call)) ≡ firstOf (drop n (fieldRows (c .args .sizes) (c .args .call)))
 
-past-21 : (c : tie.Else1) → firstOf (fieldRows (c .before .before .before .args .sizes) (c .before .before .before .args .call)) ≡ firstOf (drop 1 (fieldRows (c .before .before .before .args .sizes) (c .before .before .before .args .call)))
-unfolding firstOf
+past-21 : (c : tie.Else1) → Past 1 (c .before .before .before)
+unfolding firstOf fieldRows
 past-21 c = rw (lt-ltb _ _ (c .if1 .left))
 
-past-22 : (c : tie.Else2) → firstOf (fieldRows (c .before .before .before .before .before .before .args .sizes) (c .before .before .before .before .before .before .args .call)) ≡ firstOf (drop 2 (fieldRows (c .before .before .before .before .before .before .args .sizes) (c .before .before .before .before .before .before .args .call)))
-unfolding firstOf
+past-22 : (c : tie.Else2) → Past 2 (c .before .before .before .before .before .before)
+unfolding firstOf fieldRows
 past-22 c = past-21 (c .before .before .before) ∙ rw (c .if2 .left)
 
-past-23 : (c : tie.Else3) → firstOf (fieldRows (c .before .before .before .before .before .before .before .before .args .sizes) (c .before .before .before .before .before .before .before .before .args .call)) ≡ firstOf (drop 3 (fieldRows (c .before .before .before .before .before .before .before .before .args .sizes) (c .before .before .before .before .before .before .before .before .args .call)))
-unfolding firstOf
+past-23 : (c : tie.Else3) → Past 3 (c .before .before .before .before .before .before .before .before)
+unfolding firstOf fieldRows
 past-23 c = past-22 (c .before .before) ∙ rw (← (c .before .unused-not-zero .ensures), c .if3 .left)
 
-past-24 : (c : tie.Else4) → firstOf (fieldRows (c .before .before .before .before .before .before .before .before .before .before .before .before .before .args .sizes) (c .before .before .before .before .before .before .before .before .before .before .before .before .before .args .call)) ≡ firstOf (drop 4 (fieldRows (c .before .before .before .before .before .before .before .before .before .before .before .before .before .args .sizes) (c .before .before .before .before .before .before .before .before .before .before .before .before .before .args .call)))
-unfolding firstOf
+past-24 : (c : tie.Else4) → Past 4 (c .before .before .before .before .before .before .before .before .before .before .before .before .before)
+unfolding firstOf fieldRows
 past-24 c =
-    past-23 (c .before .before .before .before .before) ∙
-    rw (← (c .before .before .before .before .uses-slot .ensures), ← (c .before .without-slot .ensures), c .if4 .left)
+    let uses = c .before .before .before .before in
+    past-23 (uses .before) ∙ rw (← (uses .uses-slot .ensures), ← (c .before .without-slot .ensures), c .if4 .left)
 
 returns : tie.Need-returns
-unfolding firstOf
+unfolding firstOf fieldRows
 returns c = rw (le-ltb _ _ (c .if1 .taken))
 
 returns-2 : tie.Need-returns-2
-unfolding firstOf
+unfolding firstOf fieldRows
 returns-2 c = sym (past-21 (c .before .before .before) ∙ rw (c .if2 .taken))
 
-unused-not-zero-requires : tie.Need-unused-not-zero-requires
-unused-not-zero-requires c κs = search needs
-
 returns-3 : tie.Need-returns-3
-unfolding firstOf
+unfolding firstOf fieldRows
 returns-3 c = sym (past-22 (c .before .before) ∙ rw (← (c .before .unused-not-zero .ensures), c .if3 .taken))
 
-uses-slot-requires : tie.Need-uses-slot-requires
-uses-slot-requires c κs = search needs
-
-without-slot-requires : tie.Need-without-slot-requires
-without-slot-requires c κs = search needs
-
 returns-4 : tie.Need-returns-4
-unfolding firstOf
+unfolding firstOf fieldRows
 returns-4 c =
-    sym
-    (past-23 (c .before .before .before .before .before) ∙
-    rw (← (c .before .before .before .before .uses-slot .ensures), ← (c .before .without-slot .ensures), c .if4 .taken))
-
-uses-link-requires : tie.Need-uses-link-requires
-uses-link-requires c κs = search needs
+    let uses = c .before .before .before .before in
+    sym (past-23 (uses .before) ∙ rw (← (uses .uses-slot .ensures), ← (c .before .without-slot .ensures), c .if4 .taken))
 
 returns-5 : tie.Need-returns-5
-unfolding firstOf
+unfolding firstOf fieldRows
 returns-5 c = sym (past-24 (c .before .before .before .before) ∙ rw (← (c .before .before .before .uses-link .ensures), c .if5 .taken))
 
 returns-6 : tie.Need-returns-6
-unfolding firstOf
+unfolding firstOf fieldRows
 returns-6 c = sym (past-24 (c .before .before .before .before) ∙ rw (← (c .before .before .before .uses-link .ensures), c .if5 .left))
 
 pub field-refusal-spec : {M : Type 1} → statement M
@@ -73,11 +63,11 @@ field-refusal-spec =
     (tie.spec
     returns
     returns-2
-    unused-not-zero-requires
+    (λ c κs. search needs)
     returns-3
-    uses-slot-requires
-    without-slot-requires
+    (λ c κs. search needs)
+    (λ c κs. search needs)
     returns-4
-    uses-link-requires
+    (λ c κs. search needs)
     returns-5
     returns-6)

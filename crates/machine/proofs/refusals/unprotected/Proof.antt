@@ -1,11 +1,8 @@
 -- `unprotected` is the test of line 31; only a call that reads a slot looks at its mark.
 use borrow.Author.Needs.{needs}
-use Rattle.entries.proofs.Flags.{refused, passed}
+use Rattle.basics.specs.Tests.{refused, passed}
 use Rattle.machine.proofs.refusals.unprotected.Statement.{statement}
 use Rattle.machine.proofs.refusals.unprotected.Tie as tie
-
-reads-slot-requires : tie.Need-reads-slot-requires
-reads-slot-requires c κs = search needs
 
 returns : tie.Need-returns
 returns c = rw (refused (c .before .reads-slot .ensures) (c .if1 .taken))
@@ -27,5 +24,4 @@ returns-2 c =
     )
 
 pub unprotected-spec : {M : Type 1} → statement M
-unprotected-spec =
-    tie.close (tie.spec reads-slot-requires returns position-requires slot-at-requires returns-2)
+unprotected-spec = tie.close (tie.spec (λ c κs. search needs) returns position-requires slot-at-requires returns-2)

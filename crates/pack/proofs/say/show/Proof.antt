@@ -1,4 +1,4 @@
--- `pack::say::show` meets its contract: it stops at the word's end or when the buffer is full. Assumes nothing.
+-- `pack::say::show` meets its contract: it stops at the word's end or when the buffer is full.
 use Prim.Native.Nat.{_-_, _≤_}
 use mathlib.Core.Path.{_≡_, refl, sym}
 use native.Mathlib.Omega.{arith}

@@ -38,8 +38,8 @@ array-copy-out-carrier c =
     let most = limited _ _ (c .before .before .before .before .before .before .before .before .before .before .before .before .pre) .threads in
     omega (arith, c .if3 .taken)
 
-carried-at-requires : tie.Need-carried-at-requires
-carried-at-requires c κs = search needs
+scan-position-requires : tie.Need-scan-position-requires
+scan-position-requires c κs = search needs
 
 returns-3 : tie.Need-returns-3
 unfolding linkWith handWith carrierOf
@@ -47,7 +47,7 @@ returns-3 c =
     is-carried _ _ (c .before .before .before .before .before .before .before .before .before .before .before .link-with .result) (c .before .before .before .before .before .before .before .before .before .before .before .link-with .ensures)
     (c .before .before .before .before .before .before .before .before .before .if1 .left) (c .before .before .before .before .before .before .before .hand-with .result) (c .before .before .before .before .before .before .before .hand-with .ensures)
     (c .before .before .before .before .before .if2 .left) (c .before .before .before .before .carrier-of .result) (c .before .before .before .before .carrier-of .ensures)
-    (c .before .before .if3 .taken) _ (c .carried-at .ensures)
+    (c .before .before .if3 .taken) _ (c .scan-position .ensures)
 
 mul-handover-with : tie.Need-mul-handover-with
 mul-handover-with c =
@@ -100,7 +100,7 @@ reason-of-spec =
     cast-t
     mul-carrier
     array-copy-out-carrier
-    carried-at-requires
+    scan-position-requires
     returns-3
     mul-handover-with
     handover-with-requires

@@ -8,9 +8,9 @@ use lib.Dec.{eqb}
 use borrow.Author.Tests.{eq-eqb, ne-eqb}
 use borrow.Author.Needs.{needs}
 use Rattle.entries.specs.Entries.{emptySlot}
-use Rattle.laws.specs.Lemmas.Good.{position-less}
+use Rattle.entries.specs.Facts.{position-less}
 use Rattle.reasons.specs.declared.Hazard.the-variants.{Nowhere}
-use Rattle.reasons.specs.Lemmas.First.{none-more}
+use Rattle.basics.specs.First.{none-more}
 use Rattle.reasons.proofs.Scan.{inside, next-row, at-end, found-at, found-nowhere}
 use Rattle.reasons.proofs.hazards.first_hazard.Statement.{statement}
 use Rattle.reasons.proofs.hazards.first_hazard.Tie as tie

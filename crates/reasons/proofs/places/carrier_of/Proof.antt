@@ -9,7 +9,7 @@ use borrow.Author.Tests.{eq-eqb, ne-eqb}
 use borrow.Author.Needs.{needs}
 use Rattle.entries.specs.Entries.{idleThread}
 use Rattle.entries.specs.Phases.{carriedBy}
-use Rattle.reasons.specs.Lemmas.First.{first-is, first-none, none-more}
+use Rattle.basics.specs.First.{first-is, first-none, none-more}
 use Rattle.reasons.proofs.places.carrier_of.Statement.{statement}
 use Rattle.reasons.proofs.places.carrier_of.Tie as tie
 

@@ -8,7 +8,7 @@ use lib.Dec.{eqb}
 use borrow.Author.Tests.{eq-eqb, ne-eqb}
 use borrow.Author.Needs.{needs}
 use Rattle.entries.specs.Entries.{idleThread}
-use Rattle.reasons.specs.Lemmas.First.{first-is, first-none, none-more}
+use Rattle.basics.specs.First.{first-is, first-none, none-more}
 use Rattle.reasons.proofs.places.hand_with.Statement.{statement}
 use Rattle.reasons.proofs.places.hand_with.Tie as tie
 

@@ -7,7 +7,7 @@ use lib.ListN.{getD}
 use lib.Dec.{eqb}
 use borrow.Author.Tests.{eq-eqb, ne-eqb}
 use borrow.Author.Needs.{needs}
-use Rattle.reasons.specs.Lemmas.First.{first-is, first-none, none-more}
+use Rattle.basics.specs.First.{first-is, first-none, none-more}
 use Rattle.reasons.proofs.places.link_with.Statement.{statement}
 use Rattle.reasons.proofs.places.link_with.Tie as tie
 

@@ -1,5 +1,4 @@
 -- `records::reading::is_marked` meets its contract: each test of a byte is one of the two tests of `marked`.
--- Assumes nothing.
 use borrow.Author.Needs.{needs}
 use borrow.Author.Tests.{eq-eqb, ne-eqb}
 use Rattle.records.specs.Marks.{marked}

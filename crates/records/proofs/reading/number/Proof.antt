@@ -1,5 +1,4 @@
 -- `records::reading::number` meets its contract: the sum of four bytes at their places fits 32 bits, and is what `numberOf` computes to.
--- Assumes nothing.
 use borrow.Author.Needs.{needs}
 use Rattle.records.specs.Bytes.{numberOf}
 use Rattle.records.proofs.reading.number.Statement.{statement}

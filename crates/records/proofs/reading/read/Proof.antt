@@ -1,10 +1,9 @@
 -- `records::reading::read` meets its contract: the tests that led to each `return` are those of one case of `readOf`.
--- Assumes nothing.
 use borrow.Author.Needs.{needs}
 use mathlib.Core.Path.{sym, _∙_}
 use borrow.Author.Tests.{not-true, not-false}
 use native.Mathlib.Omega.{arith}
-use Rattle.records.specs.Laws.Cases.{reads-end, reads-short, reads-other, reads-step, reads-nonzero, reads-sizes}
+use Rattle.records.specs.Lemmas.Cases.{reads-end, reads-short, reads-other, reads-step, reads-nonzero, reads-sizes}
 use Rattle.records.proofs.reading.read.Statement.{statement}
 use Rattle.records.proofs.reading.read.Tie as tie
 

@@ -1,11 +1,10 @@
 -- `records::reading::rest` meets its contract. Where a record was read, ten bytes stand, so the part ten bytes on is there.
--- Assumes nothing.
 use borrow.Author.Needs.{needs}
 use mathlib.Core.Path.{sym, _∙_}
 use native.Mathlib.Omega.{arith}
 use Rattle.records.specs.Rest.{restAfter}
-use Rattle.records.specs.Laws.Front.{take-rest}
-use Rattle.records.specs.Laws.Cases.{read-long, rest-at}
+use Rattle.records.specs.Lemmas.Front.{take-rest}
+use Rattle.records.specs.Lemmas.Cases.{read-long, rest-at}
 use Rattle.records.proofs.reading.rest.Statement.{statement}
 use Rattle.records.proofs.reading.rest.Tie as tie
 

@@ -1,5 +1,4 @@
 -- `records::reading::sizes_at` meets its contract, field by field.
--- Assumes nothing.
 use borrow.Author.Needs.{needs}
 use Rattle.records.specs.Reading.{sizesAt}
 use Rattle.records.proofs.reading.sizes_at.Statement.{statement}

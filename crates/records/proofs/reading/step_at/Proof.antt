@@ -1,5 +1,4 @@
 -- `records::reading::step_at` meets its contract, field by field; the tag is what `number` ensures.
--- Assumes nothing.
 use borrow.Author.Needs.{needs}
 use Rattle.records.specs.Reading.{stepAt}
 use Rattle.records.proofs.reading.step_at.Statement.{statement}

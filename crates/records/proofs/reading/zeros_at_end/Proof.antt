@@ -1,11 +1,10 @@
 -- `records::reading::zeros_at_end` meets its contract: each `return` knows of one byte that is not 0, and the last that the other three are.
--- Assumes nothing.
 use borrow.Author.Needs.{needs}
 use borrow.Author.Tests.{ne-eqb}
 use mathlib.Core.Path.{sym}
 use mathlib.Core.Bool.{and-false}
 use Rattle.records.specs.Reading.{zerosAtEnd}
-use Rattle.records.specs.Laws.Cases.{zeros-by-last}
+use Rattle.records.specs.Lemmas.Cases.{zeros-by-last}
 use Rattle.records.proofs.reading.zeros_at_end.Statement.{statement}
 use Rattle.records.proofs.reading.zeros_at_end.Tie as tie
 

@@ -1,10 +1,9 @@
 -- `records::writing::put` meets its contract: ten stores one after the other are the ten bytes and then what stood after the tenth.
--- Assumes nothing.
 use borrow.Author.Needs.{needs}
 use borrow.Author.Tests.{lt-ltb, le-ltb}
 use native.Mathlib.Omega.{arith}
 use lib.ListN.{length-set}
-use Rattle.records.specs.Laws.Front.{stored}
+use Rattle.records.specs.Lemmas.Front.{stored}
 use Rattle.records.specs.Writing.{answerOf, writtenOf}
 use Rattle.records.proofs.writing.put.Statement.{statement}
 use Rattle.records.proofs.writing.put.Tie as tie

@@ -1,5 +1,4 @@
 -- `records::writing::write_sizes` meets its contract: what it hands to `put` is `sizesBytes`.
--- Assumes nothing.
 use borrow.Author.Needs.{needs}
 use Rattle.records.specs.Bytes.{sizesBytes}
 use Rattle.records.specs.Writing.{writtenOf}

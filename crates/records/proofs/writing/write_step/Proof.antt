@@ -1,5 +1,4 @@
 -- `records::writing::write_step` meets its contract: what it hands to `put` is `stepBytes`.
--- Assumes nothing.
 use borrow.Author.Needs.{needs}
 use Rattle.records.specs.Bytes.{stepBytes, lowFirst}
 use Rattle.records.specs.Writing.{writtenOf}

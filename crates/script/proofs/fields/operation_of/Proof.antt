@@ -1,4 +1,4 @@
--- `script::fields::operation_of` meets its contract: a name, a word that is no number, or a number. Assumes nothing.
+-- `script::fields::operation_of` meets its contract: a name, a word that is no number, or a number.
 use borrow.Author.Needs.{needs}
 use borrow.Author.Tests.{eq-eqb, ne-eqb, not-true, not-false}
 use mathlib.Core.Path.{sym, _∙_}

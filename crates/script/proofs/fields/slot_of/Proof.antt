@@ -1,4 +1,4 @@
--- `script::fields::slot_of` meets its contract. Assumes nothing.
+-- `script::fields::slot_of` meets its contract.
 use borrow.Author.Needs.{needs}
 use borrow.Author.Tests.{eq-eqb, ne-eqb}
 use mathlib.Core.Path.{sym, _∙_}

@@ -1,4 +1,4 @@
--- `script::fields::tag_of` meets its contract. Assumes nothing.
+-- `script::fields::tag_of` meets its contract.
 use borrow.Author.Needs.{needs}
 use borrow.Author.Tests.{eq-eqb, ne-eqb}
 use Rattle.script.specs.Fields.{tagOf}

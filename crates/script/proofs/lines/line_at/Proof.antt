@@ -1,4 +1,4 @@
--- `script::lines::line_at` meets its contract. Assumes nothing.
+-- `script::lines::line_at` meets its contract.
 use borrow.Author.Needs.{needs}
 use borrow.Author.Tests.{eq-eqb, ne-eqb}
 use Rattle.script.specs.Lines.{lineOf}

@@ -1,4 +1,4 @@
--- `script::lines::sizes_line` meets its contract: each return knows the words before it and what they say. Assumes nothing.
+-- `script::lines::sizes_line` meets its contract: each return knows the words before it and what they say.
 use borrow.Author.Needs.{needs}
 use borrow.Author.Tests.{lt-ltb, le-ltb}
 use mathlib.Core.Path.{sym, _∙_}

@@ -1,4 +1,4 @@
--- `script::names::is` meets its contract. Assumes nothing.
+-- `script::names::is` meets its contract.
 use borrow.Author.Needs.{needs}
 use Rattle.script.proofs.Same.{same-is}
 use Rattle.script.proofs.names.is.Statement.{statement}

@@ -1,4 +1,4 @@
--- `script::names::named` meets its contract: each return knows what the comparisons before it said. Assumes nothing.
+-- `script::names::named` meets its contract: each return knows what the comparisons before it said.
 use borrow.Author.Needs.{needs}
 use mathlib.Core.Path.{sym, _∙_}
 use Rattle.script.specs.Names.{namedOf}

@@ -1,4 +1,4 @@
--- `script::names::no_slot` meets its contract. Assumes nothing.
+-- `script::names::no_slot` meets its contract.
 use borrow.Author.Needs.{needs}
 use mathlib.Core.Path.{sym, _∙_}
 use Rattle.script.specs.Names.{noSlot}

@@ -1,5 +1,5 @@
 -- `script::numbers::all_digits` meets its contract. The invariant: the bytes before the present one are digits, so the word is all digits
--- where the rest is. Assumes nothing.
+-- where the rest is.
 use Prim.Native.Nat.{_-_, _≤_}
 use mathlib.Core.Path.{_≡_, refl, sym, _∙_}
 use native.Mathlib.Omega.{arith}

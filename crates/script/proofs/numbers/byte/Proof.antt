@@ -1,4 +1,4 @@
--- `script::numbers::byte` meets its contract: a number up to 255 fits a byte. Assumes nothing.
+-- `script::numbers::byte` meets its contract: a number up to 255 fits a byte.
 use borrow.Author.Needs.{needs}
 use mathlib.Core.Path.{sym, _∙_}
 use native.Mathlib.Omega.{arith}

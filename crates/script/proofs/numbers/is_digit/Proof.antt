@@ -1,4 +1,4 @@
--- `script::numbers::is_digit` meets its contract. Assumes nothing.
+-- `script::numbers::is_digit` meets its contract.
 use borrow.Author.Tests.{le-leb, lt-leb}
 use Rattle.script.specs.Numbers.{isDigit}
 use Rattle.script.proofs.numbers.is_digit.Statement.{statement}

@@ -1,4 +1,4 @@
--- `script::numbers::number` meets its contract: no bytes, a byte that is no digit, or the value of the digits. Assumes nothing.
+-- `script::numbers::number` meets its contract: no bytes, a byte that is no digit, or the value of the digits.
 use borrow.Author.Needs.{needs}
 use borrow.Author.Tests.{not-true, not-false}
 use mathlib.Core.Path.{sym, _∙_}

@@ -1,5 +1,5 @@
 -- `script::numbers::worth` meets its contract. The invariant: the value so far is in range, and with the rest of the digits it makes the
--- word's. Assumes nothing.
+-- word's.
 use Prim.Native.Nat.{suc, _+_, _*_, _-_, _≤_}
 use mathlib.Core.Path.{_≡_, refl, sym, ap, _∙_}
 use native.Mathlib.Omega.{arith}

@@ -1,4 +1,4 @@
--- `script::packing::next_line` meets its contract. Assumes nothing.
+-- `script::packing::next_line` meets its contract.
 use borrow.Author.Needs.{needs}
 use borrow.Author.Tests.{lt-ltb, le-ltb}
 use native.Mathlib.Omega.{arith}

@@ -1,5 +1,5 @@
 -- `script::packing::pack` meets its contract. The invariant is `Going`: the records so far stand at the buffer's front, and what is to come
--- is what the lines from here on give. The measure is what is left of the text. Assumes nothing.
+-- is what the lines from here on give. The measure is what is left of the text.
 use Prim.Native.Nat.{_-_}
 use mathlib.Core.Path.{sym, _∙_}
 use native.Mathlib.Omega.{arith}

@@ -1,4 +1,4 @@
--- `script::packing::put_sizes` meets its contract: with ten bytes of room the record stands after the bytes that are full. Assumes nothing.
+-- `script::packing::put_sizes` meets its contract: with ten bytes of room the record stands after the bytes that are full.
 use borrow.Author.Needs.{needs}
 use borrow.Author.Tests.{lt-ltb, le-ltb}
 use native.Mathlib.Omega.{arith}

@@ -1,4 +1,4 @@
--- `script::packing::take_line` meets its contract: by the four cases of what a line says. Assumes nothing.
+-- `script::packing::take_line` meets its contract: by the four cases of what a line says.
 use borrow.Author.Needs.{needs}
 use mathlib.Core.Path.{sym, _∙_}
 use Rattle.script.specs.Packing.{addedBy, tookOf}

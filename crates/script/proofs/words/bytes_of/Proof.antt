@@ -1,4 +1,4 @@
--- `script::words::bytes_of` meets its contract. Assumes nothing.
+-- `script::words::bytes_of` meets its contract.
 use borrow.Author.Needs.{needs}
 use Rattle.script.specs.Words.{bytesOf}
 use Rattle.script.proofs.words.bytes_of.Statement.{statement}

@@ -1,4 +1,4 @@
--- `script::words::goes_on` meets its contract. Assumes nothing.
+-- `script::words::goes_on` meets its contract.
 use borrow.Author.Needs.{needs}
 use borrow.Author.Tests.{eq-eqb, ne-eqb}
 use mathlib.Core.Path.{sym}

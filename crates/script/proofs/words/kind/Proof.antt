@@ -1,4 +1,4 @@
--- `script::words::kind` meets its contract: each return knows the tests before it. Assumes nothing.
+-- `script::words::kind` meets its contract: each return knows the tests before it.
 use borrow.Author.Tests.{eq-eqb, ne-eqb}
 use Rattle.script.specs.Words.{kindOf}
 use Rattle.script.proofs.words.kind.Statement.{statement}

@@ -1,5 +1,4 @@
 -- `script::words::past` meets its contract. The invariant: from the present place on the run ends where it ends from `at` on.
--- Assumes nothing.
 use Prim.Native.Nat.{_+_, _-_, _≤_}
 use mathlib.Core.Path.{_≡_, refl, sym, ap, _∙_}
 use native.Mathlib.Omega.{arith}

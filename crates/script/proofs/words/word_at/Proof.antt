@@ -1,4 +1,4 @@
--- `script::words::word_at` meets its contract: the run of blanks, and then the run of a word. Assumes nothing.
+-- `script::words::word_at` meets its contract: the run of blanks, and then the run of a word.
 use borrow.Author.Needs.{needs}
 use native.Mathlib.Omega.{arith}
 use mathlib.Core.Path.{sym}

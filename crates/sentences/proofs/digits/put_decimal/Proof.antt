@@ -1,4 +1,4 @@
--- `sentences::digits::put_decimal` meets its contract: one, two or three digits. Assumes nothing.
+-- `sentences::digits::put_decimal` meets its contract: one, two or three digits.
 use native.Mathlib.Omega.{arith}
 use lib.ListN.{length-set}
 use Rattle.sentences.proofs.Small.{put-one, put-two, put-three}

@@ -1,4 +1,4 @@
--- `sentences::ending::ends` meets its contract: each arm knows what was read. Assumes nothing.
+-- `sentences::ending::ends` meets its contract: each arm knows what was read.
 use Rattle.sentences.specs.Ends.{isEnd}
 use borrow.Author.Needs.{needs}
 use Rattle.sentences.proofs.ending.ends.Statement.{statement}

@@ -1,5 +1,4 @@
 -- `sentences::ending::put_last` meets its contract: the lines of the state where the run has come to its end, and nothing where it stops.
--- Assumes nothing.
 use mathlib.Core.Path.{sym, _∙_}
 use Rattle.sentences.specs.Ends.{lastOf}
 use Rattle.sentences.specs.Told.{textAt}

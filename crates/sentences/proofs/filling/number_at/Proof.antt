@@ -1,4 +1,4 @@
--- `sentences::filling::number_at` meets its contract: past the last of the four numbers a list has none. Assumes nothing.
+-- `sentences::filling::number_at` meets its contract: past the last of the four numbers a list has none.
 use mathlib.Core.Path.{sym}
 use native.Mathlib.Omega.{arith}
 use lib.ListN.{List·getD-eq-default}

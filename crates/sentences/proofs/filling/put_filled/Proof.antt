@@ -1,5 +1,5 @@
 -- `sentences::filling::put_filled` meets its contract. The invariant: what the rest of the template gives, with the numbers that are left, is
--- still to come; each byte so far took at most three. Assumes nothing.
+-- still to come; each byte so far took at most three.
 use Rattle.sentences.proofs.Nothing.{nothing}
 use Prim.Native.Nat.{_+_, _-_, _*_, _≤_}
 use mathlib.Core.Path.{_≡_}

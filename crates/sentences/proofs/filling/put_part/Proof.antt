@@ -1,4 +1,4 @@
--- `sentences::filling::put_part` meets its contract: the digits of the number, or the one byte. Assumes nothing.
+-- `sentences::filling::put_part` meets its contract: the digits of the number, or the one byte.
 use native.Mathlib.Omega.{arith}
 use Rattle.lines.proofs.Appending.{one}
 use Rattle.sentences.proofs.Parts.{place-part, other-part}

@@ -1,4 +1,4 @@
--- `sentences::first::put_started` meets its contract: the text of the run that starts, or nothing. Assumes nothing.
+-- `sentences::first::put_started` meets its contract: the text of the run that starts, or nothing.
 use Rattle.sentences.specs.Told.{textAt}
 use Rattle.sentences.proofs.Nothing.{nothing}
 use Rattle.sentences.proofs.Endings.{good-end, refused-end}

@@ -1,5 +1,4 @@
--- `sentences::first::put_text` meets its contract: the text of the run of these sizes, or nothing where the first record has none. Assumes
--- nothing.
+-- `sentences::first::put_text` meets its contract: the text of the run of these sizes, or nothing where the first record has none.
 use mathlib.Core.Path.{sym, _∙_}
 use Rattle.sentences.specs.Ends.{endFirst}
 use Rattle.sentences.specs.Told.{textAt, textOf}

@@ -1,5 +1,5 @@
 -- `sentences::objects::put_lines` meets its contract. The invariant: the lines of the objects after the last one are still to come; each so
--- far took at most 480 bytes. Assumes nothing.
+-- far took at most 480 bytes.
 use Prim.Native.Nat.{_+_, _-_, _*_, _≤_}
 use mathlib.Core.Path.{_≡_}
 use mathlib.Core.List.{_++_}

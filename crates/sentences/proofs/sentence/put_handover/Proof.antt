@@ -1,4 +1,4 @@
--- `sentences::sentence::put_handover` meets its contract: the words of the handover and then those of its guard. Assumes nothing.
+-- `sentences::sentence::put_handover` meets its contract: the words of the handover and then those of its guard.
 use native.Mathlib.Omega.{arith}
 use Rattle.lines.proofs.Appending.{then}
 use Rattle.sentences.specs.Words.{ascii}

@@ -1,4 +1,4 @@
--- `sentences::sentence::put_hazard` meets its contract: each arm writes the words that `hazardWords` has for it. Assumes nothing.
+-- `sentences::sentence::put_hazard` meets its contract: each arm writes the words that `hazardWords` has for it.
 use native.Mathlib.Omega.{arith}
 use Rattle.sentences.specs.Words.{ascii, filled}
 use Rattle.sentences.specs.Sentence.{hazardWords}

@@ -1,4 +1,4 @@
--- `sentences::sentence::put_line` meets its contract: the words of the reason and then those of the hazard. Assumes nothing.
+-- `sentences::sentence::put_line` meets its contract: the words of the reason and then those of the hazard.
 use native.Mathlib.Omega.{arith}
 use Rattle.lines.proofs.Appending.{then}
 use Rattle.sentences.proofs.Nothing.{nothing}

@@ -1,4 +1,4 @@
--- `sentences::sentence::put_reason` meets its contract: each arm writes the words that `reasonWords` has for it. Assumes nothing.
+-- `sentences::sentence::put_reason` meets its contract: each arm writes the words that `reasonWords` has for it.
 use native.Mathlib.Omega.{arith}
 use Rattle.sentences.specs.Words.{ascii, filled}
 use Rattle.sentences.specs.Sentence.{reasonWords}

@@ -1,4 +1,4 @@
--- `sentences::sentence::slot_of` meets its contract. Assumes nothing.
+-- `sentences::sentence::slot_of` meets its contract.
 use borrow.Author.Tests.{eq-eqb, ne-eqb}
 use Rattle.sentences.specs.Sentence.{slotOf}
 use borrow.Author.Needs.{needs}

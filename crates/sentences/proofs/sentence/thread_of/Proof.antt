@@ -1,4 +1,4 @@
--- `sentences::sentence::thread_of` meets its contract. Assumes nothing.
+-- `sentences::sentence::thread_of` meets its contract.
 use borrow.Author.Tests.{eq-eqb, ne-eqb}
 use Rattle.sentences.specs.Sentence.{threadOf}
 use borrow.Author.Needs.{needs}

@@ -1,4 +1,4 @@
--- `stops::building::put_long` is safe and ends. The invariant: a record that is put in keeps the length. Assumes nothing.
+-- `stops::building::put_long` is safe and ends. The invariant: a record that is put in keeps the length.
 use Prim.Native.Nat.{_-_}
 use mathlib.Core.Path.{_≡_, _∙_}
 use native.Mathlib.Omega.{arith}

@@ -1,4 +1,4 @@
--- `stops::showing::count_lines` is safe and ends. The invariant: there are at most as many newlines as bytes passed. Assumes nothing.
+-- `stops::showing::count_lines` is safe and ends. The invariant: there are at most as many newlines as bytes passed.
 use Prim.Native.Nat.{_≤_, _-_}
 use mathlib.Core.Logic.{⊎-elim}
 use native.Mathlib.Omega.{arith}

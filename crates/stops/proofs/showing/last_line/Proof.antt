@@ -1,4 +1,4 @@
--- `stops::showing::last_line` is within the text, is safe and ends. The invariant: the last line found begins within the text. Assumes nothing.
+-- `stops::showing::last_line` is within the text, is safe and ends. The invariant: the last line found begins within the text.
 use Prim.Native.Nat.{_≤_, _-_}
 use mathlib.Core.Logic.{⊎-elim}
 use native.Mathlib.Omega.{arith}

@@ -1,4 +1,4 @@
--- `stops::showing::show` is safe and ends: each part that it lends is as long as its count says. Assumes nothing.
+-- `stops::showing::show` is safe and ends: each part that it lends is as long as its count says.
 use mathlib.Core.Path.{sym}
 use lib.Seq.{length-take-le}
 use borrow.Author.Needs.{needs}

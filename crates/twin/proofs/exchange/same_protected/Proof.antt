@@ -1,4 +1,4 @@
--- `twin::exchange::same_protected` is safe and ends: each turn of its loop counts one up to a fixed bound. Assumes nothing.
+-- `twin::exchange::same_protected` is safe and ends: each turn of its loop counts one up to a fixed bound.
 use borrow.Author.Needs.{needs}
 use Prim.Native.Nat.{_≤_, _-_}
 use Rattle.twin.proofs.exchange.same_protected.Statement.{statement}

@@ -1,4 +1,4 @@
--- `twin::place::position` is safe: eight times four and three more fits. Assumes nothing.
+-- `twin::place::position` is safe: eight times four and three more fits.
 use borrow.Author.Needs.{needs}
 use native.Mathlib.Nat.{mul-le-mul}
 use native.Mathlib.Omega.{arith}

@@ -1,4 +1,4 @@
--- `twin::raw::none_past` is safe and ends: each turn of its loop counts one up to a fixed bound. Assumes nothing.
+-- `twin::raw::none_past` is safe and ends: each turn of its loop counts one up to a fixed bound.
 use borrow.Author.Needs.{needs}
 use Prim.Native.Nat.{_≤_, _-_}
 use Rattle.twin.proofs.raw.none_past.Statement.{statement}

@@ -1,4 +1,4 @@
--- `twin::store::same_protected` is safe and ends: each turn of its loop counts one up to a fixed bound. Assumes nothing.
+-- `twin::store::same_protected` is safe and ends: each turn of its loop counts one up to a fixed bound.
 use borrow.Author.Needs.{needs}
 use Prim.Native.Nat.{_≤_, _-_}
 use Rattle.twin.proofs.store.same_protected.Statement.{statement}

@@ -1,4 +1,4 @@
--- `twin::twin::all_free` is safe and ends: each turn of its loop counts one up to a fixed bound. Assumes nothing.
+-- `twin::twin::all_free` is safe and ends: each turn of its loop counts one up to a fixed bound.
 use borrow.Author.Needs.{needs}
 use Prim.Native.Nat.{_≤_, _-_}
 use Rattle.twin.proofs.twin.all_free.Statement.{statement}

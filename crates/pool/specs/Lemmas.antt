@@ -1,0 +1,3 @@
+-- Lemmas nobody needs to read. What they lead to is stated in Promise.
+pub mod Marks
+pub mod Next
