@@ -2,14 +2,14 @@
 use Prim.Native.Nat.{ℕ, _<_, _≤_}
 use native.Mathlib.Omega.{arith}
 use mathlib.Core.Path.{_≡_, refl}
-use mathlib.Core.Bool.{true, false≢true}
+use mathlib.Core.Bool.{Bool, true, false, false≢true}
 use borrow.Author.Tests.{lt-ltb, le-leb, ltb-true, leb-true}
 use Rattle.entries.specs.declared.Sizes.{Sizes}
 use Rattle.entries.specs.declared.Phase.{Phase}
 use Rattle.entries.specs.declared.Phase.the-variants.{Idle, Loaded, Published, Draining, Look, Swap}
 use Rattle.basics.specs.Tests.{and-i, ands}
 use Rattle.entries.specs.Sizes.{positions}
-use Rattle.entries.specs.Phases.{isIdle, carriedBy, scansAt, returnsTo, phaseInRange}
+use Rattle.entries.specs.Phases.{isIdle, carriedBy, scansAt, atLook, returnsTo, phaseInRange}
 
 pub idle-is : (phase : Phase) → isIdle phase ≡ true → phase ≡ Idle
 unfolding isIdle
@@ -76,47 +76,62 @@ module _ (z : Sizes) where
   unfolding phaseInRange
   draining-facts slot h = ltb-true _ _ h
 
-  -- A thread in this phase carries object o and is at position q of its scan.
-  pub record Scans (phase : Phase) (o q : ℕ) : Type 0 where
+  -- A thread in this phase carries object o, is at position q of its scan, and returns to `back` when that ends. Its next step is a look, or
+  -- a swap.
+  pub record Scans (look : Bool) (phase back : Phase) (o q : ℕ) : Type 0 where
     pub carries : carriedBy phase ≡ o
     pub at : scansAt phase ≡ q
+    pub step : atLook phase ≡ look
+    pub returns : returnsTo phase ≡ back
     pub some : 0 < o
     pub most : o ≤ z .objects
     pub good : phaseInRange z phase ≡ true
 
-  pub look-scans : (o q : ℕ) → 0 < o → o ≤ z .objects → q ≤ positions z → Scans (Look o q) o q
-  unfolding carriedBy scansAt phaseInRange
-  look-scans o q some most end =
+  abbrev pub AtLook : Phase → Phase → ℕ → ℕ → Type 0
+  AtLook phase back o q = Scans true phase back o q
+
+  abbrev pub AtSwap : Phase → Phase → ℕ → ℕ → Type 0
+  AtSwap phase back o q = Scans false phase back o q
+
+  pub look-scans : (back : Phase) (o q : ℕ) → returnsTo (Look o q) ≡ back → 0 < o → o ≤ z .objects → q ≤ positions z
+      → AtLook (Look o q) back o q
+  unfolding carriedBy scansAt atLook phaseInRange
+  look-scans back o q returns some most end =
       record {
         carries = refl;
         at = refl;
+        step = refl;
+        returns = returns;
         some = some;
         most = most;
         good = and-i (and-i (le-leb _ _ some) (le-leb _ _ most)) (le-leb _ _ end);
       }
 
-  pub swap-scans : (o q : ℕ) → 0 < o → o ≤ z .objects → q < positions z → Scans (Swap o q) o q
-  unfolding carriedBy scansAt phaseInRange
-  swap-scans o q some most end =
+  pub swap-scans : (back : Phase) (o q : ℕ) → returnsTo (Swap o q) ≡ back → 0 < o → o ≤ z .objects → q < positions z
+      → AtSwap (Swap o q) back o q
+  unfolding carriedBy scansAt atLook phaseInRange
+  swap-scans back o q returns some most end =
       record {
         carries = refl;
         at = refl;
+        step = refl;
+        returns = returns;
         some = some;
         most = most;
         good = and-i (and-i (le-leb _ _ some) (le-leb _ _ most)) (lt-ltb _ _ end);
       }
 
-  pub look-facts : (o q : ℕ) → phaseInRange z (Look o q) ≡ true → Scans (Look o q) o q × (q ≤ positions z)
+  pub look-facts : (o q : ℕ) → phaseInRange z (Look o q) ≡ true → AtLook (Look o q) (returnsTo (Look o q)) o q × (q ≤ positions z)
   unfolding phaseInRange
   look-facts o q h =
       let end = leb-true q (positions z) (search ands) in
-      (look-scans o q (leb-true _ _ (search ands)) (leb-true _ _ (search ands)) end, end)
+      (look-scans (returnsTo (Look o q)) o q refl (leb-true _ _ (search ands)) (leb-true _ _ (search ands)) end, end)
 
-  pub swap-facts : (o q : ℕ) → phaseInRange z (Swap o q) ≡ true → Scans (Swap o q) o q × (q < positions z)
+  pub swap-facts : (o q : ℕ) → phaseInRange z (Swap o q) ≡ true → AtSwap (Swap o q) (returnsTo (Swap o q)) o q × (q < positions z)
   unfolding phaseInRange
   swap-facts o q h =
       let end = ltb-true q (positions z) (search ands) in
-      (swap-scans o q (leb-true _ _ (search ands)) (leb-true _ _ (search ands)) end, end)
+      (swap-scans (returnsTo (Swap o q)) o q refl (leb-true _ _ (search ands)) (leb-true _ _ (search ands)) end, end)
 
   -- no phase in range carries more than an object
   pub carried-most : (phase : Phase) → phaseInRange z phase ≡ true → carriedBy phase ≤ z .objects

@@ -34,6 +34,15 @@ scansAt (Draining slot) = 0
 scansAt (Look object position) = position
 scansAt (Swap object position) = position
 
+-- whether a scan's next step is a look; otherwise it is a swap
+unfoldable pub atLook : Phase → Bool
+atLook Idle = false
+atLook (Loaded slot link object) = false
+atLook (Published slot link) = false
+atLook (Draining slot) = false
+atLook (Look object position) = true
+atLook (Swap object position) = false
+
 -- what a thread becomes when its scan ends: document 01's scans end idle
 unfoldable pub returnsTo : Phase → Phase
 returnsTo Idle = Idle

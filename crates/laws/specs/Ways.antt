@@ -13,7 +13,7 @@ use Rattle.basics.specs.Rows.{FirstIs}
 use Rattle.entries.specs.Sizes.{positions}
 use Rattle.entries.specs.Entries.{withHazard, withHandover}
 use Rattle.entries.specs.Phases.{isIdle, carriedBy, phaseInRange}
-use Rattle.entries.specs.PhaseFacts.{Scans}
+use Rattle.entries.specs.PhaseFacts.{AtLook, AtSwap}
 use Rattle.pool.specs.Pool.{nextOf, takenOut, putBack}
 use Rattle.machine.specs.Parts.{linkAt, handOf, phaseOf, slotAt, positionOf, freeAt, tagOf, withLink, withThread, withSlot, withPool, become}
 use Rattle.machine.specs.Sound.{Sound}
@@ -39,6 +39,13 @@ pub record Does (s : State) (c : Call) (n : ℕ) : Type 0 where
   pub sound : Sound s
   pub thread : c .thread < s .sizes .threads
   pub operation : c .operation ≡ n
+
+-- a thread that drains its slot at position p: it carries nothing yet
+pub record Drains (s : State) (c : Call) (p : ℕ) : Type 0 where
+  pub slot : ℕ
+  pub is : phase s c ≡ Draining slot
+  pub at : own s c slot ≡ p
+  pub carries : carriedBy (phase s c) ≡ 0
 
 -- the slot of a swap, where it names one: it has a position and is protected
 abbrev pub NamesProtected : State → Call → Type 0
@@ -103,29 +110,29 @@ pub data Way (s : State) (c : Call) : Outcome → Type 0 where
       → linkAt s link ≡ o → (o ≡ (slotAt s (own s c slot)) .hazard → ⊥)
       → Way s c (outcome (become s (c .thread) (Loaded slot link o)) Working)
   -- a drain that finds nothing
-  finishes : (p : ℕ) → Does s c 7 → carriedBy (phase s c) ≡ 0 → p < positions (s .sizes) → (slotAt s p) .handover ≡ 0
+  finishes : (p : ℕ) → Does s c 7 → Drains s c p → p < positions (s .sizes) → (slotAt s p) .handover ≡ 0
       → Way s c (outcome (become (withSlot s p (withHandover (slotAt s p) 0)) (c .thread) Idle) Finished)
   -- a drain that finds an object, which is scanned from there on
-  drains : (p : ℕ) {o : ℕ} (next : Phase) → Does s c 7 → carriedBy (phase s c) ≡ 0 → p < positions (s .sizes)
-      → (slotAt s p) .handover ≡ o → Scans (s .sizes) next o p
+  drains : (p : ℕ) {o : ℕ} (next : Phase) → Does s c 7 → Drains s c p → p < positions (s .sizes)
+      → (slotAt s p) .handover ≡ o → AtLook (s .sizes) next Idle o p
       → Way s c (outcome (become (withSlot s p (withHandover (slotAt s p) 0)) (c .thread) next) Working)
   -- a look that meets the object: a swap at that position is next
-  meets : {o q : ℕ} (next : Phase) → Does s c 7 → Scans (s .sizes) (phase s c) o q → q < positions (s .sizes)
-      → (slotAt s q) .hazard ≡ o → Scans (s .sizes) next o q
+  meets : {back : Phase} {o q : ℕ} (next : Phase) → Does s c 7 → AtLook (s .sizes) (phase s c) back o q → q < positions (s .sizes)
+      → (slotAt s q) .hazard ≡ o → AtSwap (s .sizes) next back o q
       → Way s c (outcome (become s (c .thread) next) Working)
-  -- a look that does not
-  passes : {o q : ℕ} (next : Phase) → Does s c 7 → Scans (s .sizes) (phase s c) o q → q < positions (s .sizes)
-      → ((slotAt s q) .hazard ≡ o → ⊥) → Scans (s .sizes) next o (suc q)
+  -- a look that does not: a look one position on is next
+  passes : {back : Phase} {o q : ℕ} (next : Phase) → Does s c 7 → AtLook (s .sizes) (phase s c) back o q → q < positions (s .sizes)
+      → ((slotAt s q) .hazard ≡ o → ⊥) → AtLook (s .sizes) next back o (suc q)
       → Way s c (outcome (become s (c .thread) next) Working)
-  -- the end of a scan
-  frees : {o q : ℕ} (next : Phase) → Does s c 7 → Scans (s .sizes) (phase s c) o q → positions (s .sizes) ≤ q
+  -- a look past the last position: the object is free, and the scan ends
+  frees : {o q : ℕ} (next : Phase) → Does s c 7 → AtLook (s .sizes) (phase s c) next o q → positions (s .sizes) ≤ q
       → carriedBy next ≡ 0 → phaseInRange (s .sizes) next ≡ true
       → Way s c (outcome (become (withPool s (putBack (s .pool) o) o 0) (c .thread) next) (Freed o))
-  -- a swap into an empty handover
-  leaves : {o q : ℕ} (next : Phase) → Does s c 7 → Scans (s .sizes) (phase s c) o q → q < positions (s .sizes)
+  -- a swap into an empty handover: the scan ends
+  leaves : {o q : ℕ} (next : Phase) → Does s c 7 → AtSwap (s .sizes) (phase s c) next o q → q < positions (s .sizes)
       → (slotAt s q) .handover ≡ 0 → carriedBy next ≡ 0 → phaseInRange (s .sizes) next ≡ true
       → Way s c (outcome (become (withSlot s q (withHandover (slotAt s q) o)) (c .thread) next) (Left o q))
-  -- a swap that displaces what stood there
-  displaces : {o q old : ℕ} (next : Phase) → Does s c 7 → Scans (s .sizes) (phase s c) o q → q < positions (s .sizes)
-      → (slotAt s q) .handover ≡ old → Scans (s .sizes) next old q
+  -- a swap that displaces what stood there, which is looked for from the same position on
+  displaces : {back : Phase} {o q old : ℕ} (next : Phase) → Does s c 7 → AtSwap (s .sizes) (phase s c) back o q → q < positions (s .sizes)
+      → (slotAt s q) .handover ≡ old → AtLook (s .sizes) next back old q
       → Way s c (outcome (become (withSlot s q (withHandover (slotAt s q) o)) (c .thread) next) Working)

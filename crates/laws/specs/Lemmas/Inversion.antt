@@ -22,7 +22,7 @@ use Rattle.machine.specs.GoOn.{publishOf, confirmOf, drainOf, lookOf, handOverO
 use Rattle.machine.specs.Refusals.{usesSlot, usesLink, withoutSlot, readsSlot, refusals, refusalOf}
 use Rattle.machine.specs.Accepted.{Accepted, accepted, by-operation}
 use Rattle.machine.specs.Step.{doneOf, stepOf}
-use Rattle.laws.specs.Ways.{named, phase, Does, NamesProtected, Way, refused, takes, begins, swaps, moves, reads, retires, clears, publishes, protects, finds-nothing, loads-again, finishes, drains, meets, passes, frees, leaves, displaces}
+use Rattle.laws.specs.Ways.{named, phase, Does, Drains, NamesProtected, Way, refused, takes, begins, swaps, moves, reads, retires, clears, publishes, protects, finds-nothing, loads-again, finishes, drains, meets, passes, frees, leaves, displaces}
 
 -- an outcome that a test chooses
 chosen : (s : State) (c : Call) (test : Bool) (x y : Outcome) → (test ≡ true → Way s c x) → (test ≡ false → Way s c y) → Way s c (cond test x y)
@@ -91,8 +91,9 @@ module _ (s : State) (c : Call) (a : Accepted s c) where
     in-range now e = rw e at (its-phase s (a .sound .ranged) t (a .fields .thread))
 
     -- what is known of the phase is known of the thread
-    scanning : {now : Phase} {o q : ℕ} → phaseOf s t ≡ now → Scans (s .sizes) now o q → Scans (s .sizes) (phase s c) o q
-    scanning {now} {o} {q} e scans = subst (λ (x : Phase). Scans (s .sizes) x o q) (sym e) scans
+    scanning : {look : Bool} {now : Phase} {o q : ℕ} → phaseOf s t ≡ now → Scans (s .sizes) look now (returnsTo now) o q
+        → Scans (s .sizes) look (phase s c) (returnsTo (phase s c)) o q
+    scanning {look} {now} {o} {q} e scans = subst (λ (x : Phase). Scans (s .sizes) look x (returnsTo x) o q) (sym e) scans
 
     publish-way : (slot link o : ℕ) → phaseOf s t ≡ Loaded slot link o → Way s c (publishOf s t slot link o)
     unfolding publishOf
@@ -114,20 +115,20 @@ module _ (s : State) (c : Call) (a : Accepted s c) where
         (λ other. loads-again on e (f .0) (f .1) refl (eqb-false _ _ other))
 
     drain-way : (slot : ℕ) → phaseOf s t ≡ Draining slot → Way s c (drainOf s t slot)
-    unfolding drainOf carriedBy
+    unfolding drainOf carriedBy returnsTo
     drain-way slot e =
         let p = positionOf s t slot in
         let inside = its-position s (a .sound .ranged) t slot (a .fields .thread) (draining-facts (s .sizes) slot (in-range (Draining slot) e)) in
         let facts = its-slot s (a .sound .ranged) p inside in
-        let carries : carriedBy (phase s c) ≡ 0 = rw e in
+        let was : Drains s c p = record { slot = slot; is = e; at = refl; carries = rw e } in
         chosen s c (eqb ((slotAt s p) .handover) 0) _ _
-        (λ none. finishes p on carries inside (eqb-true _ _ none))
+        (λ none. finishes p on was inside (eqb-true _ _ none))
         (λ some.
         let ne = eqb-false ((slotAt s p) .handover) 0 some in
-        drains p _ on carries inside refl (look-scans (s .sizes) _ p (omega arith) (facts .handover) (omega arith)))
+        drains p _ on was inside refl (look-scans (s .sizes) Idle _ p refl (omega arith) (facts .handover) (omega arith)))
 
     look-way : (o q : ℕ) → phaseOf s t ≡ Look o q → Way s c (lookOf s t o q)
-    unfolding lookOf
+    unfolding lookOf returnsTo
     look-way o q e =
         let f = look-facts (s .sizes) o q (in-range (Look o q) e) in
         let now = f .0 in
@@ -135,14 +136,14 @@ module _ (s : State) (c : Call) (a : Accepted s c) where
         (λ under.
         let inside = ltb-true q (positions (s .sizes)) under in
         chosen s c (eqb ((slotAt s q) .hazard) o) _ _
-        (λ match. meets _ on (scanning e now) inside (eqb-true _ _ match) (swap-scans (s .sizes) o q (now .some) (now .most) inside))
-        (λ other. passes _ on (scanning e now) inside (eqb-false _ _ other) (look-scans (s .sizes) o (suc q) (now .some) (now .most) inside)))
+        (λ match. meets _ on (scanning e now) inside (eqb-true _ _ match) (swap-scans (s .sizes) (returnsTo (phase s c)) o q (rw e) (now .some) (now .most) inside))
+        (λ other. passes _ on (scanning e now) inside (eqb-false _ _ other) (look-scans (s .sizes) (returnsTo (phase s c)) o (suc q) (rw e) (now .some) (now .most) inside)))
         (λ past.
         frees _ on (scanning e now) (ltb-false _ _ past) (returned-carries (phaseOf s t))
         (returned-good (s .sizes) (phaseOf s t) (its-phase s (a .sound .ranged) t (a .fields .thread))))
 
     hand-over-way : (o q : ℕ) → phaseOf s t ≡ Swap o q → Way s c (handOverOf s t o q)
-    unfolding handOverOf
+    unfolding handOverOf returnsTo
     hand-over-way o q e =
         let f = swap-facts (s .sizes) o q (in-range (Swap o q) e) in
         let inside = f .1 in
@@ -153,7 +154,7 @@ module _ (s : State) (c : Call) (a : Accepted s c) where
         (returned-good (s .sizes) (phaseOf s t) (its-phase s (a .sound .ranged) t (a .fields .thread))))
         (λ some.
         let ne = eqb-false ((slotAt s q) .handover) 0 some in
-        displaces _ on (scanning e (f .0)) inside refl (look-scans (s .sizes) _ q (omega arith) (facts .handover) (omega arith)))
+        displaces _ on (scanning e (f .0)) inside refl (look-scans (s .sizes) (returnsTo (phase s c)) _ q (rw e) (omega arith) (facts .handover) (omega arith)))
 
     from-way : (now : Phase) → phaseOf s t ≡ now → isIdle now ≡ false → Way s c (goOnFrom s t now)
     unfolding goOnFrom isIdle

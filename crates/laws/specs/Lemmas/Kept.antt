@@ -132,7 +132,7 @@ module _ (s : State) (c : Call) where
   kept (retires {o = o} d idle full some) h =
       let r = h .ranged in
       let most : o ≤ s .sizes .objects = rw (sym full) (its-hand s r (c .thread) (d .thread)) in
-      let scan = look-scans (s .sizes) o 0 some most (omega arith) in
+      let scan = look-scans (s .sizes) _ o 0 refl some most (omega arith) in
       settled s r (c .thread) 0 _ (d .thread) (omega arith) (scan .good)
       (λ k under.
       let one = h .placed k under in
@@ -156,9 +156,9 @@ module _ (s : State) (c : Call) where
       thread-kept d _
       (loaded-good (s .sizes) slot link _ inside inside′ (rw (sym read) (link-holds s (h .ranged) link inside′)))
       (sym (ap carriedBy was))
-  kept (finishes p d carries inside empty) h = handover-kept d p 0 _ inside (omega arith) carries (sym empty) (idle-good (s .sizes))
-  kept (drains p next d carries inside full scans) h =
-      handover-kept d p 0 next inside (omega arith) carries (scans .carries ∙ sym full) (scans .good)
+  kept (finishes p d was inside empty) h = handover-kept d p 0 _ inside (omega arith) (was .carries) (sym empty) (idle-good (s .sizes))
+  kept (drains p next d was inside full scans) h =
+      handover-kept d p 0 next inside (omega arith) (was .carries) (scans .carries ∙ sym full) (scans .good)
   kept (meets next d was inside match scans) h = thread-kept d next (scans .good) (scans .carries ∙ sym (was .carries))
   kept (passes next d was inside other scans) h = thread-kept d next (scans .good) (scans .carries ∙ sym (was .carries))
   kept (frees {o = o} next d was past ended fine) h =
@@ -193,8 +193,8 @@ module _ (s : State) (c : Call) where
   sizes-kept (protects d was inside inside′ read same some) = refl
   sizes-kept (finds-nothing d was inside inside′ read none′) = refl
   sizes-kept (loads-again d was inside inside′ read other) = refl
-  sizes-kept (finishes p d carries inside empty) = refl
-  sizes-kept (drains p next d carries inside full scans) = refl
+  sizes-kept (finishes p d was inside empty) = refl
+  sizes-kept (drains p next d was inside full scans) = refl
   sizes-kept (meets next d was inside match scans) = refl
   sizes-kept (passes next d was inside other scans) = refl
   sizes-kept (frees next d was past ended fine) = refl

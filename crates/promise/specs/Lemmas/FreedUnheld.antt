@@ -33,8 +33,8 @@ module _ (s : State) (c : Call) (h : Sound s) (g : Guarded s) where
   freeing (protects d was inside inside′ read same some) x e = clash (cc)
   freeing (finds-nothing d was inside inside′ read none) x e = clash (cc)
   freeing (loads-again d was inside inside′ read other) x e = clash (cc)
-  freeing (finishes p d carries inside empty) x e = clash (cc)
-  freeing (drains p next d carries inside full scans) x e = clash (cc)
+  freeing (finishes p d was inside empty) x e = clash (cc)
+  freeing (drains p next d was inside full scans) x e = clash (cc)
   freeing (meets next d was inside match scans) x e = clash (cc)
   freeing (passes next d was inside other scans) x e = clash (cc)
   freeing (frees {o = o} {q = q} next d was past ended fine) x e =

@@ -192,11 +192,11 @@ module _ (s : State) (c : Call) (h : Sound s) (g : Guarded s) where
       guarded-thread _ mid t (handOf s t) _ (thread-long s (h .ranged) t (d .thread)) (λ q under marked e. let z = (mid q under marked) .some in absurd (omega arith))
   guarded-kept (finds-nothing d was inside inside′ read none) = empty-guarded d _ _ refl
   guarded-kept (loads-again d was inside inside′ read other) = empty-guarded d _ _ refl
-  guarded-kept (finishes p d carries inside empty) =
+  guarded-kept (finishes p d was inside empty) =
       exchange-guarded d p 0 _ inside
       (λ q under marked e. let some = (g q under marked) .some in absurd (omega arith))
       (λ some. absurd (omega arith))
-  guarded-kept (drains p next d carries inside full scans) =
+  guarded-kept (drains p next d was inside full scans) =
       exchange-guarded d p 0 next inside
       (λ q under marked e. let some = (g q under marked) .some in absurd (omega arith))
       (λ some. (full ∙ sym (scans .carries), scans .at))

@@ -108,9 +108,9 @@ module _ (s : State) (c : Call) (h : Sound s) (g : Guarded s) (p : ℕ) (less : 
       (λ e. (refl, rw e))
   stays (finds-nothing d was inside inside′ read none) still = untouched _ refl (λ n. omega arith)
   stays (loads-again d was inside inside′ read other) still = untouched _ refl (λ n. omega arith)
-  stays (finishes q d carries inside empty) still =
+  stays (finishes q d was inside empty) still =
       stored q (withHandover (slotAt s q) 0) _ inside (λ k. refl) (λ n. omega arith) (λ e. (rw e marked, rw e))
-  stays (drains q next d carries inside full scans) still =
+  stays (drains q next d was inside full scans) still =
       stored q (withHandover (slotAt s q) 0) _ inside (λ k. refl) (λ n. omega arith) (λ e. (rw e marked, rw e))
   stays (meets next d was inside match scans) still = untouched _ refl (λ n. omega arith)
   stays (passes next d was inside other scans) still = untouched _ refl (λ n. omega arith)

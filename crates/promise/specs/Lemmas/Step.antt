@@ -243,8 +243,8 @@ module _ (s : State) (c : Call) (r : Reading) (store : Store) (v : Invariant s r
         names = v .same .names;
       })
   matches (loads-again d was inside inside′ is other) = none-listed s c r store _ (rw (d .operation)) (thread-same d _)
-  matches (finishes p d carries inside empty) = none-listed s c r store _ (rw (d .operation)) (handover-same d p 0 _ inside)
-  matches (drains p next′ d carries inside full scans) = none-listed s c r store _ (rw (d .operation)) (handover-same d p 0 next′ inside)
+  matches (finishes p d was inside empty) = none-listed s c r store _ (rw (d .operation)) (handover-same d p 0 _ inside)
+  matches (drains p next′ d was inside full scans) = none-listed s c r store _ (rw (d .operation)) (handover-same d p 0 next′ inside)
   matches (meets next′ d was inside match scans) = none-listed s c r store _ (rw (d .operation)) (thread-same d next′)
   matches (passes next′ d was inside other scans) = none-listed s c r store _ (rw (d .operation)) (thread-same d next′)
   matches (frees {o = o} next′ d was past ended fine) =
