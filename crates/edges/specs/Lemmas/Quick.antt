@@ -71,7 +71,7 @@ pub step-is-quick : stepOf ≡ quickly doneOf
 unfolding stepOf
 step-is-quick = slow-is-quick doneOf
 
--- the count of the five placesHolding by the quick check
+-- the count of the five places by the quick check
 unfoldable pub quickCount : State → Counted
 quickCount s =
     cond (quickSound s)
