@@ -35,15 +35,6 @@ module _ (test : ℕ → Bool) where
       (from-is (suc k) n r l (omega arith) passes (λ j low′ high′. fails j (omega arith) high′)))
       (eq-or-lt-of-le low)
 
-  from-most : (k n : ℕ) → firstFrom k n test ≤ k + n
-  unfolding firstFrom
-  from-most k zero = omega arith
-  from-most k (suc n) =
-      ⊎-elim
-      (λ (e : test k ≡ true). rw e (omega arith))
-      (λ (e : test k ≡ false). rw e (let rest = from-most (suc k) n in omega arith))
-      (tested (test k))
-
   from-passes : (k n : ℕ) → firstFrom k n test < k + n → test (firstFrom k n test) ≡ true
   unfolding firstFrom
   from-passes k zero less = absurd (omega arith)
@@ -73,9 +64,6 @@ module _ (test : ℕ → Bool) where
   -- r passes and none before it
   pub first-is : (n r : ℕ) → r < n → test r ≡ true → ((j : ℕ) → j < r → test j ≡ false) → first n test ≡ r
   first-is n r less passes fails = from-is 0 n r (omega arith) (omega arith) passes (λ j low. fails j)
-
-  pub first-most : (n : ℕ) → first n test ≤ n
-  first-most n = let most = from-most 0 n in omega arith
 
   pub first-passes : (n : ℕ) → first n test < n → test (first n test) ≡ true
   first-passes n less = from-passes 0 n (omega arith)
