@@ -6,14 +6,14 @@ use lib.Dec.{eqb}
 use borrow.Author.Tests.{eq-eqb, ne-eqb}
 
 -- f with another value at i
-unfoldable pub put : (ℕ → ℕ) → ℕ → ℕ → ℕ → ℕ
+unfoldable pub put : {A : Type 0} → (ℕ → A) → ℕ → A → ℕ → A
 put f i value j = cond (eqb j i) value (f j)
 
-pub put-same : (f : ℕ → ℕ) (i v : ℕ) → put f i v i ≡ v
+pub put-same : {A : Type 0} (f : ℕ → A) (i : ℕ) (v : A) → put f i v i ≡ v
 unfolding put
 put-same f i v = rw (eq-eqb i i refl)
 
-pub put-other : (f : ℕ → ℕ) (i v j : ℕ) → (j ≡ i → ⊥) → put f i v j ≡ f j
+pub put-other : {A : Type 0} (f : ℕ → A) (i : ℕ) (v : A) (j : ℕ) → (j ≡ i → ⊥) → put f i v j ≡ f j
 unfolding put
 put-other f i v j ne = rw (ne-eqb j i ne)
 

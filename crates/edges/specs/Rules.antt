@@ -1,73 +1,101 @@
--- The machine with some of its rules left open: document 01's, or one of them changed.
+-- The machine with one rule changed: for some calls it does something else, and for all others what document 01 says.
 use Prim.Native.Nat.{ℕ}
 use mathlib.Core.Path.{_≡_, refl}
-use mathlib.Core.Bool.{cond}
+use mathlib.Core.Bool.{Bool, true, false, cond, _&&_}
 use lib.Dec.{eqb}
 use Rattle.machine.specs.declared.State.{State}
 use Rattle.machine.specs.declared.Call.{Call}
-use Rattle.entries.specs.declared.Phase.{Phase}
-use Rattle.entries.specs.declared.Phase.the-variants.{Idle, Loaded, Published, Draining, Look, Swap}
 use Rattle.machine.specs.declared.Outcome.{Outcome}
 use Rattle.machine.specs.declared.Answer.the-variants.{Refused}
+use Rattle.entries.specs.declared.Phase.{Phase}
+use Rattle.entries.specs.declared.Phase.the-variants.{Idle, Loaded, Published, Draining, Look, Swap}
 use Rattle.machine.specs.Parts.{phaseOf}
-use Rattle.machine.specs.Calls.{outcome, takeOf, protectOf, swapOf, readOf, retireOf, clearOf}
-use Rattle.machine.specs.GoOn.{publishOf, confirmOf, drainOf, lookOf, handOverOf, goOnFrom, goOnOf}
+use Rattle.machine.specs.Calls.{outcome}
 use Rattle.machine.specs.Refusals.{refusalOf}
 use Rattle.machine.specs.Step.{doneOf, stepOf}
 use Rattle.edges.specs.Runs.{Machine}
 
--- clear, and go on from each phase: the state, the thread, then what the call or the phase holds
-pub record Rules : Type 0 where
-  pub clear : State → ℕ → ℕ → Outcome
-  pub loaded : State → ℕ → ℕ → ℕ → ℕ → Outcome
-  pub published : State → ℕ → ℕ → ℕ → Outcome
-  pub draining : State → ℕ → ℕ → Outcome
-  pub look : State → ℕ → ℕ → ℕ → Outcome
-  pub swap : State → ℕ → ℕ → ℕ → Outcome
+-- which accepted calls the rule is for, and what they do instead
+pub record Change : Type 0 where
+  pub isFor : State → Call → Bool
+  pub does : State → Call → Outcome
 
-unfoldable pub goOnBy : Rules → State → ℕ → Phase → Outcome
-goOnBy rules s t Idle = outcome s (Refused 27)
-goOnBy rules s t (Loaded slot link object) = rules .loaded s t slot link object
-goOnBy rules s t (Published slot link) = rules .published s t slot link
-goOnBy rules s t (Draining slot) = rules .draining s t slot
-goOnBy rules s t (Look object p) = rules .look s t object p
-goOnBy rules s t (Swap object p) = rules .swap s t object p
+unfoldable pub doneBy : Change → State → Call → Outcome
+doneBy change s c = cond (change .isFor s c) (change .does s c) (doneOf s c)
 
-unfoldable pub doneBy : Rules → State → Call → Outcome
-doneBy rules s c =
-    cond (eqb (c .operation) 1) (takeOf s (c .thread) (c .tag))
-    (cond (eqb (c .operation) 2) (protectOf s (c .thread) (c .slot) (c .link))
-    (cond (eqb (c .operation) 3) (swapOf s (c .thread) (c .slot) (c .link))
-    (cond (eqb (c .operation) 4) (readOf s (c .thread) (c .slot))
-    (cond (eqb (c .operation) 5) (retireOf s (c .thread))
-    (cond (eqb (c .operation) 6) (rules .clear s (c .thread) (c .slot))
-    (goOnBy rules s (c .thread) (phaseOf s (c .thread))))))))
+unfoldable pub machineOf : Change → Machine
+machineOf change s c = cond (eqb (refusalOf s c) 0) (doneBy change s c) (outcome s (Refused (refusalOf s c)))
 
-unfoldable pub machineOf : Rules → Machine
-machineOf rules s c = cond (eqb (refusalOf s c) 0) (doneBy rules s c) (outcome s (Refused (refusalOf s c)))
+-- A changed machine differs from document 01's in the calls that the changed rule is for, and in no other.
+pub one-rule-only : (change : Change) (s : State) (c : Call) → change .isFor s c ≡ false → machineOf change s c ≡ stepOf s c
+unfolding machineOf doneBy stepOf
+one-rule-only change s c other = rw other
 
--- the rules of document 01
-abbrev pub base : Rules
-base =
+-- no rule changed
+abbrev pub base : Change
+base = record { isFor = λ s c. false; does = doneOf }
+
+-- what an operation does
+abbrev pub atCall : ℕ → (State → Call → Outcome) → Change
+atCall operation does = record { isFor = λ s c. eqb (c .operation) operation; does = does }
+
+-- what a phase holds, where it is the one that is meant
+
+unfoldable pub whenLoaded : {A : Type 0} → (ℕ → ℕ → ℕ → A) → A → Phase → A
+whenLoaded f other Idle = other
+whenLoaded f other (Loaded slot link object) = f slot link object
+whenLoaded f other (Published slot link) = other
+whenLoaded f other (Draining slot) = other
+whenLoaded f other (Look object p) = other
+whenLoaded f other (Swap object p) = other
+
+unfoldable pub whenDraining : {A : Type 0} → (ℕ → A) → A → Phase → A
+whenDraining f other Idle = other
+whenDraining f other (Loaded slot link object) = other
+whenDraining f other (Published slot link) = other
+whenDraining f other (Draining slot) = f slot
+whenDraining f other (Look object p) = other
+whenDraining f other (Swap object p) = other
+
+unfoldable pub whenLook : {A : Type 0} → (ℕ → ℕ → A) → A → Phase → A
+whenLook f other Idle = other
+whenLook f other (Loaded slot link object) = other
+whenLook f other (Published slot link) = other
+whenLook f other (Draining slot) = other
+whenLook f other (Look object p) = f object p
+whenLook f other (Swap object p) = other
+
+unfoldable pub whenSwap : {A : Type 0} → (ℕ → ℕ → A) → A → Phase → A
+whenSwap f other Idle = other
+whenSwap f other (Loaded slot link object) = other
+whenSwap f other (Published slot link) = other
+whenSwap f other (Draining slot) = other
+whenSwap f other (Look object p) = other
+whenSwap f other (Swap object p) = f object p
+
+-- a go on of a thread in such a phase
+abbrev pub goesOn : (Phase → Bool) → State → Call → Bool
+goesOn meant s c = eqb (c .operation) 7 && meant (phaseOf s (c .thread))
+
+-- go on from Loaded, from Look and from Swap: the state and the thread, then what the phase holds
+
+abbrev pub atLoaded : (State → ℕ → ℕ → ℕ → ℕ → Outcome) → Change
+atLoaded does =
     record {
-      clear = clearOf;
-      loaded = publishOf;
-      published = confirmOf;
-      draining = drainOf;
-      look = lookOf;
-      swap = handOverOf;
+      isFor = goesOn (whenLoaded (λ slot link object. true) false);
+      does = λ s c. whenLoaded (does s (c .thread)) (doneOf s c) (phaseOf s (c .thread));
     }
 
-going-on : (s : State) (t : ℕ) (phase : Phase) → goOnBy base s t phase ≡ goOnFrom s t phase
-unfolding goOnBy goOnFrom
-going-on s t Idle = refl
-going-on s t (Loaded slot link object) = refl
-going-on s t (Published slot link) = refl
-going-on s t (Draining slot) = refl
-going-on s t (Look object p) = refl
-going-on s t (Swap object p) = refl
+abbrev pub atLook : (State → ℕ → ℕ → ℕ → Outcome) → Change
+atLook does =
+    record {
+      isFor = goesOn (whenLook (λ object p. true) false);
+      does = λ s c. whenLook (does s (c .thread)) (doneOf s c) (phaseOf s (c .thread));
+    }
 
--- With document 01's rules this is its machine.
-pub base-is-the-machine : (s : State) (c : Call) → machineOf base s c ≡ stepOf s c
-unfolding machineOf doneBy stepOf doneOf goOnOf
-base-is-the-machine s c = rw (going-on s (c .thread) (phaseOf s (c .thread))) refl
+abbrev pub atSwap : (State → ℕ → ℕ → ℕ → Outcome) → Change
+atSwap does =
+    record {
+      isFor = goesOn (whenSwap (λ object p. true) false);
+      does = λ s c. whenSwap (does s (c .thread)) (doneOf s c) (phaseOf s (c .thread));
+    }

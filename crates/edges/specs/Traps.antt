@@ -2,7 +2,7 @@
 use Prim.Native.Nat.{ℕ, suc}
 use mathlib.Core.Path.{_≡_, refl, subst⁻¹, fun-ext}
 use mathlib.Core.Bool.{_&&_}
-use mathlib.Core.List.{List, [], _∷_, map}
+use mathlib.Core.List.{List, [], _∷_, _++_, map}
 use lib.Dec.{eqb}
 use lib.ListN.{drop}
 use Rattle.entries.specs.declared.Sizes.{Sizes}
@@ -15,7 +15,7 @@ use Rattle.entries.specs.Entries.{isObject}
 use Rattle.edges.specs.Lemmas.Computing.{computing}
 use Rattle.edges.specs.Runs.{six, sizes, call, on, Machine, started, stepLine}
 use Rattle.edges.specs.Lemmas.Quick.{quickly, slow-is-quick, step-is-quick, quick-computes}
-use Rattle.edges.specs.Rules.{Rules, base, goOnBy, doneBy, machineOf}
+use Rattle.edges.specs.Rules.{Change, base, whenLoaded, whenDraining, whenLook, whenSwap, doneBy, machineOf}
 use Rattle.edges.specs.TrapRules.{handOverAndMoveOn, movesOn, publishAndMark, marksAtOnce, drainAtClear, zeroAfterDrain, drainsFirst, lookBy, lastMet, freesAtLast, skipsOwn}
 
 -- how many protected slots hold an object that is free: what must never be
@@ -26,12 +26,13 @@ freeYetProtected s = howMany (λ slot. slot .mark && freeAt s (slot .hazard)) (s
 unfoldable pub leftBehind : State → ℕ
 leftBehind s = howMany (λ slot. eqb (slot .hazard) 0 && isObject (slot .handover)) (s .slots)
 
--- a row: the rules, the sizes and the calls, and what is expected: the line of the last call, how many are free yet protected, how many are
+-- a row: the rules, the sizes, the calls and one more, and what is expected: the line of that last call, how many are free yet protected, how many are
 -- left behind
 pub record Trap : Type 0 where
-  pub rules : Rules
+  pub rules : Change
   pub sizes : Sizes
   pub calls : List Call
+  pub final : Call
   pub last : List ℕ
   pub freed : ℕ
   pub left : ℕ
@@ -45,7 +46,7 @@ endOf machine steps line s (c ∷ calls) =
 
 -- the calls of a row on some machine
 unfoldable pub shownOn : Machine → Trap → List (List ℕ)
-shownOn machine trap = endOf machine 0 [] (started (trap .sizes)) (trap .calls)
+shownOn machine trap = endOf machine 0 [] (started (trap .sizes)) (trap .calls ++ (trap .final ∷ []))
 
 unfoldable pub foretold : Trap → List (List ℕ)
 foretold trap = trap .last ∷ (trap .freed ∷ trap .left ∷ []) ∷ []
@@ -81,8 +82,8 @@ moving-on =
           on 0 ∷
           on 1 ∷
           on 1 ∷
-          on 1 ∷
           [];
+      final = on 1;
       last = six 23 1 7 11 2 0;
       freed = 1;
       left = 0;
@@ -109,8 +110,8 @@ marking-at-once =
           on 1 ∷
           on 0 ∷
           on 1 ∷
-          on 1 ∷
           [];
+      final = on 1;
       last = six 14 1 7 11 1 0;
       freed = 1;
       left = 0;
@@ -140,8 +141,8 @@ draining-first =
           on 0 ∷
           on 0 ∷
           on 0 ∷
-          on 1 ∷
           [];
+      final = on 1;
       last = six 17 1 7 9 0 0;
       freed = 0;
       left = 1;
@@ -161,8 +162,8 @@ freeing-at-last =
           on 0 ∷
           call 0 3 0 0 0 ∷
           call 0 5 0 0 0 ∷
-          on 0 ∷
           [];
+      final = on 0;
       last = six 8 0 7 11 1 0;
       freed = 1;
       left = 0;
@@ -183,8 +184,8 @@ skipping-own =
           call 0 3 0 0 0 ∷
           call 0 5 0 0 0 ∷
           on 0 ∷
-          on 0 ∷
           [];
+      final = on 0;
       last = six 9 0 7 11 1 0;
       freed = 1;
       left = 0;
@@ -195,18 +196,18 @@ traps = moving-on ∷ marking-at-once ∷ draining-first ∷ freeing-at-last ∷
 
 -- Each changed machine ends as foretold: an object is free that a protected slot holds or, where the drain comes first, is left behind. By
 -- document 01's rules the same calls do neither.
-pub record AreTraps (changed : Rules → Machine) (machine : Machine) : Type 0 where
+pub record AreTraps (changed : Change → Machine) (machine : Machine) : Type 0 where
   pub fail : map (λ trap. shownOn (changed (trap .rules)) trap) traps ≡ map foretold traps
   pub hold : map (λ trap. drop 1 (shownOn machine trap)) traps ≡ map (λ trap. (0 ∷ 0 ∷ []) ∷ []) traps
 
 shown-quickly : AreTraps (λ rules. quickly (doneBy rules)) (quickly doneOf)
-unfolding traps moving-on marking-at-once draining-first freeing-at-last skipping-own shownOn foretold endOf freeYetProtected leftBehind goOnBy doneBy handOverAndMoveOn publishAndMark drainAtClear zeroAfterDrain lookBy lastMet computing quick-computes
+unfolding traps moving-on marking-at-once draining-first freeing-at-last skipping-own shownOn foretold endOf freeYetProtected leftBehind whenLoaded whenDraining whenLook whenSwap doneBy handOverAndMoveOn publishAndMark drainAtClear zeroAfterDrain lookBy lastMet computing quick-computes
 shown-quickly = record { fail = refl; hold = refl }
 
 pub traps-are-traps : AreTraps machineOf stepOf
 unfolding machineOf
 traps-are-traps =
-    subst⁻¹ (λ (changed : Rules → Machine). AreTraps changed stepOf)
+    subst⁻¹ (λ (changed : Change → Machine). AreTraps changed stepOf)
     (fun-ext (λ rules. slow-is-quick (doneBy rules)))
     (subst⁻¹ (λ (machine : Machine). AreTraps (λ rules. quickly (doneBy rules)) machine) step-is-quick shown-quickly)
 
@@ -234,8 +235,8 @@ swap-after-drain =
           on 0 ∷
           call 1 6 0 0 0 ∷
           on 1 ∷
-          on 0 ∷
           [];
+      final = on 0;
       last = six 17 0 7 10 1 1;
       freed = 0;
       left = 1;

@@ -9,7 +9,7 @@ use Rattle.entries.specs.declared.Phase.{Phase}
 use Rattle.entries.specs.declared.Phase.the-variants.{Idle, Loaded, Published, Draining, Look, Swap}
 use Rattle.basics.specs.Tests.{and-i, ands}
 use Rattle.entries.specs.Sizes.{positions}
-use Rattle.entries.specs.Phases.{isIdle, carriedBy, scansAt, atLook, returnsTo, phaseInRange}
+use Rattle.entries.specs.Phases.{isIdle, carriedBy, scansAt, atLook, returnsTo, Protect, none, protecting, phaseInRange}
 
 pub idle-is : (phase : Phase) → isIdle phase ≡ true → phase ≡ Idle
 unfolding isIdle
@@ -33,6 +33,26 @@ returned-carries (Published slot link) = refl
 returned-carries (Draining slot) = refl
 returned-carries (Look object position) = refl
 returned-carries (Swap object position) = refl
+
+-- nor is it in the middle of a protect
+pub returned-protects : (phase : Phase) → protecting (returnsTo phase) ≡ none
+unfolding returnsTo protecting
+returned-protects Idle = refl
+returned-protects (Loaded slot link object) = refl
+returned-protects (Published slot link) = refl
+returned-protects (Draining slot) = refl
+returned-protects (Look object position) = refl
+returned-protects (Swap object position) = refl
+
+-- a thread that carries an object protects nothing meanwhile
+pub carrying-protects : (phase : Phase) → 0 < carriedBy phase → protecting phase ≡ none
+unfolding carriedBy protecting
+carrying-protects Idle some = refl
+carrying-protects (Loaded slot link object) some = absurd (omega arith)
+carrying-protects (Published slot link) some = absurd (omega arith)
+carrying-protects (Draining slot) some = refl
+carrying-protects (Look object position) some = refl
+carrying-protects (Swap object position) some = refl
 
 module _ (z : Sizes) where
   pub returned-good : (phase : Phase) → phaseInRange z phase ≡ true → phaseInRange z (returnsTo phase) ≡ true

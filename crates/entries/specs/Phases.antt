@@ -52,6 +52,19 @@ returnsTo (Draining slot) = Idle
 returnsTo (Look object position) = Idle
 returnsTo (Swap object position) = Idle
 
+-- the protect that a thread is in the middle of: the slot it is for, and the link that is read; or none
+pub data Protect : Type 0 where
+  none : Protect
+  into : ℕ → ℕ → Protect
+
+unfoldable pub protecting : Phase → Protect
+protecting Idle = none
+protecting (Loaded slot link object) = into slot link
+protecting (Published slot link) = into slot link
+protecting (Draining slot) = none
+protecting (Look object position) = none
+protecting (Swap object position) = none
+
 -- "all numbers above are in range": a carried object is never 0, a Loaded one may be
 unfoldable pub phaseInRange : Sizes → Phase → Bool
 phaseInRange z Idle = true

@@ -11,9 +11,8 @@ use Rattle.machine.specs.Answers.{numbersOf}
 use Rattle.basics.specs.Counts.{howMany}
 use Rattle.machine.specs.Step.{stepOf}
 
--- one call of a run: the state it came to, the call, and its answer
+-- one call of a run and its answer: what can be seen of it from outside
 pub record Event : Type 0 where
-  pub before : State
   pub call : Call
   pub answer : Answer
 
@@ -26,7 +25,7 @@ abbrev pub Machine : Type 0
 Machine = State → Call → Outcome
 
 abbrev pub eventBy : Machine → State → Call → Event
-eventBy machine s c = record { before = s; call = c; answer = (machine s c) .answer }
+eventBy machine s c = record { call = c; answer = (machine s c) .answer }
 
 unfoldable pub historyBy : Machine → State → List Call → List Event
 historyBy machine s [] = []

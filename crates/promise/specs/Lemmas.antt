@@ -3,10 +3,13 @@ pub mod Guarded
 pub mod Waiting
 pub mod Same
 pub mod SameTake
+pub mod Remembers
 pub mod Invariant
 pub mod Step
 pub mod Begin
 pub mod Runs
 pub mod FreedUnheld
 pub mod ProtectedKept
+pub mod Waits
+pub mod GivenUp
 pub mod Parts

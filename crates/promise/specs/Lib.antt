@@ -1,9 +1,11 @@
--- Demand 3. To read: the store, the history, the reading, the listing, the holdings, the run; then Promise.
+-- Demand 3. To read: the store, the history, the reading, what was asked, the listing, the holdings, what was given up, the run; then Promise.
 pub mod Store
 pub mod History
 pub mod Reading
+pub mod Asked
 pub mod Listing
 pub mod Holdings
+pub mod GivenUp
 pub mod Run
 pub mod Promise
 pub mod Guard

@@ -18,8 +18,9 @@ pub record Store : Type 0 where
 abbrev pub emptyStore : Store
 emptyStore = record { links = λ i. 0; hands = λ t. 0; slots = λ p. 0; tags = [] }
 
-abbrev pub tagOfRecord : Store → ℕ → ℕ
-tagOfRecord store number = getD (store .tags) (number - 1) 0
+-- record 0 is none, and has tag 0
+unfoldable pub tagOfRecord : Store → ℕ → ℕ
+tagOfRecord store number = cond (eqb number 0) 0 (getD (store .tags) (number - 1) 0)
 
 -- the calls that the store does whole, with the fields they use
 pub data PlainCall : Type 0 where

@@ -8,11 +8,11 @@ use Rattle.entries.specs.declared.Slot.{Slot}
 use Rattle.entries.specs.declared.Thread.{Thread}
 use Rattle.entries.specs.declared.Sizes.{Sizes}
 use Rattle.entries.specs.Sizes.{inRange, positions}
-use Rattle.machine.specs.Parts.{slotAt}
+use Rattle.machine.specs.Parts.{slotAt, phaseOf}
 use Rattle.basics.specs.Counts.{bit, howMany}
 use Rattle.entries.specs.Entries.{idleThread, emptySlot}
 use Rattle.pool.specs.Promise.{fresh-pool}
-use Rattle.entries.specs.Phases.{carriedBy}
+use Rattle.entries.specs.Phases.{carriedBy, none, protecting}
 use Rattle.machine.specs.Count.{fivePlaces}
 use Rattle.machine.specs.Fresh.{freshOf}
 use Rattle.entries.specs.Facts.{bounds}
@@ -20,8 +20,10 @@ use Rattle.machine.specs.Sound.{Sound, to-sound}
 use Rattle.laws.specs.Promise.{fresh-is-sound}
 use Rattle.promise.specs.Store.{emptyStore}
 use Rattle.promise.specs.Reading.{noTakes, recordOf}
+use Rattle.promise.specs.Asked.{noneAsked}
 use Rattle.promise.specs.Holdings.{waiting}
 use Rattle.promise.specs.Lemmas.Same.{Same, Live, record-none}
+use Rattle.promise.specs.Lemmas.Remembers.{nothing-fits}
 use Rattle.promise.specs.Lemmas.Invariant.{Invariant}
 
 module _ (z : Sizes) (h : inRange z ≡ true) where
@@ -67,10 +69,21 @@ module _ (z : Sizes) (h : inRange z ≡ true) where
             };
       }
 
-  pub start-invariant : Invariant (freshOf z) noTakes emptyStore
+  none-asks : (t : ℕ) → t < z .threads → protecting (phaseOf (freshOf z) t) ≡ none
+  unfolding freshOf protecting
+  none-asks t less =
+      let b = bounds z (start-sound .ranged .sizes) in
+      ap (λ (x : Thread). protecting (x .phase)) (getD-replicate 8 t idleThread idleThread (omega arith))
+
+  pub start-invariant : Invariant (freshOf z) noneAsked noTakes emptyStore
   unfolding freshOf
   start-invariant =
-      record { sound = start-sound; guarded = λ p less marked. absurd (no-mark p less marked); same = start-same }
+      record {
+        sound = start-sound;
+        guarded = λ p less marked. absurd (no-mark p less marked);
+        remembers = record { fits = λ t less. nothing-fits (phaseOf (freshOf z) t) 0 0 0 (none-asks t less) };
+        same = start-same;
+      }
 
 pub start-waiting : (z : Sizes) → waiting (freshOf z) ≡ 0
 unfolding freshOf fivePlaces howMany bit carriedBy

@@ -17,7 +17,8 @@ use Rattle.basics.specs.Lists.{at-set}
 use Rattle.basics.specs.Rows.{first-from}
 use Rattle.entries.specs.Sizes.{positions}
 use Rattle.entries.specs.Entries.{emptySlot, withHazard, withHandover}
-use Rattle.machine.specs.Parts.{slotAt, phaseOf, positionOf}
+use Rattle.entries.specs.Phases.{protecting}
+use Rattle.machine.specs.Parts.{slotAt, positionOf}
 use Rattle.machine.specs.Sound.{Sound, slot-long, its-position}
 use Rattle.machine.specs.Answers.{numbersOf}
 use Rattle.machine.specs.Accepted.{refusals-high}
@@ -25,10 +26,12 @@ use Rattle.machine.specs.Step.{stepOf}
 use Rattle.laws.specs.Promise.{way}
 use Rattle.laws.specs.Ways.{named, Way, refused, takes, begins, swaps, moves, reads, retires, clears, publishes, protects, finds-nothing, loads-again, finishes, drains, meets, passes, frees, leaves, displaces}
 use Rattle.promise.specs.Store.{Store}
-use Rattle.promise.specs.History.{historyBy, stateBy, Event, eventOf, history, stateAfter}
+use Rattle.promise.specs.History.{historyBy, stateBy, eventOf, history, stateAfter}
 use Rattle.promise.specs.Reading.{Reading}
-use Rattle.promise.specs.Holdings.{renews, handsOut, publishesAt}
+use Rattle.promise.specs.Asked.{Memory, remembered}
+use Rattle.promise.specs.Holdings.{renews, renewals, handsOut}
 use Rattle.promise.specs.Guard.{Guarded}
+use Rattle.promise.specs.Lemmas.Remembers.{Remembers}
 use Rattle.promise.specs.Lemmas.Invariant.{Invariant}
 use Rattle.promise.specs.Lemmas.Runs.{moment}
 
@@ -36,12 +39,12 @@ use Rattle.promise.specs.Lemmas.Runs.{moment}
 record Stays (s : State) (c : Call) (p : ℕ) (o : Outcome) : Type 0 where
   mark : (slotAt (o .state) p) .mark ≡ true
   hazard : (slotAt (o .state) p) .hazard ≡ (slotAt s p) .hazard
-  kept : handsOut ((slotAt s p) .hazard) (record { before = s; call = c; answer = o .answer }) ≡ false
+  kept : handsOut ((slotAt s p) .hazard) (record { call = c; answer = o .answer }) ≡ false
 
-abbrev Renewed : State → Call → ℕ → Outcome → Bool
-Renewed s c p o = renews p (record { before = s; call = c; answer = o .answer })
+abbrev Renewed : State → Memory → Call → ℕ → Outcome → Bool
+Renewed s m c p o = renews (s .sizes .slots) p m (record { call = c; answer = o .answer })
 
-module _ (s : State) (c : Call) (h : Sound s) (g : Guarded s) (p : ℕ) (less : p < positions (s .sizes)) (marked : (slotAt s p) .mark ≡ true) where
+module _ (s : State) (c : Call) (m : Memory) (h : Sound s) (g : Guarded s) (asked : Remembers s m) (p : ℕ) (less : p < positions (s .sizes)) (marked : (slotAt s p) .mark ≡ true) where
   -- an answer with another number than 1 hands nothing out
   untouched : (o : Outcome) → slotAt (o .state) p ≡ slotAt s p → ((numbersOf (o .answer)) .number ≡ 1 → ⊥) → Stays s c p o
   unfolding handsOut
@@ -71,8 +74,8 @@ module _ (s : State) (c : Call) (h : Sound s) (g : Guarded s) (p : ℕ) (less : 
         kept = rw (ne-eqb ((numbersOf (o .answer)) .number) 1 ne);
       }
 
-  stays : {o : Outcome} → Way s c o → Renewed s c p o ≡ false → Stays s c p o
-  unfolding renews publishesAt handsOut numbersOf
+  stays : {o : Outcome} → Way s c o → Renewed s m c p o ≡ false → Stays s c p o
+  unfolding renews handsOut numbersOf protecting
   stays (refused {k = k} first) still =
       let high = first-from (refusals-high s c) first in
       untouched _ refl (λ n. omega arith)
@@ -93,9 +96,10 @@ module _ (s : State) (c : Call) (h : Sound s) (g : Guarded s) (p : ℕ) (less : 
       (λ k. refl)
       (λ n. omega arith)
       (λ e. absurd (eqb-false _ _ other e))
-  stays (publishes {slot = slot} {o = o} d was inside inside′ most) still =
+  stays (publishes {slot = slot} {link = link} {o = o} d was inside inside′ most) still =
       let q = positionOf s (c .thread) slot in
-      let other : eqb q p ≡ false = rw (d .operation, was) at still in
+      let its = asked .fits (c .thread) (d .thread) slot link (ap protecting was) in
+      let other : eqb q p ≡ false = rw (d .operation, its .0, its .1) at still in
       stored q (withHazard (slotAt s q) o false) _ (its-position s (h .ranged) (c .thread) slot (d .thread) inside)
       (λ k. refl)
       (λ n. omega arith)
@@ -120,20 +124,24 @@ module _ (s : State) (c : Call) (h : Sound s) (g : Guarded s) (p : ℕ) (less : 
   stays (displaces {o = o} {q = q} next d was inside full scans) still =
       stored q (withHandover (slotAt s q) o) _ inside (λ k. refl) (λ n. omega arith) (λ e. (rw e marked, rw e))
 
-pub protected-kept : (s : State) (r : Reading) (store : Store) → Invariant s r store → (p : ℕ) → p < positions (s .sizes)
-    → (slotAt s p) .mark ≡ true → (calls : List Call) → howMany (renews p) (history s calls) ≡ 0
+pub protected-kept : (s : State) (m : Memory) (r : Reading) (store : Store) → Invariant s m r store → (p : ℕ) → p < positions (s .sizes)
+    → (slotAt s p) .mark ≡ true → (calls : List Call) → renewals (s .sizes .slots) p m (history s calls) ≡ 0
     → ((slotAt (stateAfter s calls) p) .mark ≡ true)
     × ((slotAt (stateAfter s calls) p) .hazard ≡ (slotAt s p) .hazard)
     × (howMany (handsOut ((slotAt s p) .hazard)) (history s calls) ≡ 0)
-unfolding historyBy stateBy howMany bit
-protected-kept s r store v p less marked [] none = (marked, refl, refl)
-protected-kept s r store v p less marked (c ∷ calls) none =
-    let m = moment s c r store v in
+unfolding historyBy stateBy renewals howMany bit
+protected-kept s m r store v p less marked [] none = (marked, refl, refl)
+protected-kept s m r store v p less marked (c ∷ calls) none =
+    let one = moment s c m r store v in
     let s′ = (stepOf s c) .state in
-    let split = none-passed (renews p (eventOf s c)) (howMany (renews p) (history s′ calls)) none in
-    let now = stays s c (v .sound) (v .guarded) p less marked (way s c) (split .0) in
-    let inside : p < positions (s′ .sizes) = subst (λ (z : Sizes). p < positions z) (sym (m .sizes)) less in
-    let rest = protected-kept s′ _ _ (m .holds) p inside (now .mark) calls (split .1) in
+    let m′ = remembered m (eventOf s c) in
+    let split = none-passed (renews (s .sizes .slots) p m (eventOf s c)) (renewals (s .sizes .slots) p m′ (history s′ calls)) none in
+    let now = stays s c m (v .sound) (v .guarded) (v .remembers) p less marked (way s c) (split .0) in
+    let inside : p < positions (s′ .sizes) = subst (λ (z : Sizes). p < positions z) (sym (one .sizes)) less in
+    let still : renewals (s′ .sizes .slots) p m′ (history s′ calls) ≡ 0 =
+    subst (λ (z : Sizes). renewals (z .slots) p m′ (history s′ calls) ≡ 0) (sym (one .sizes)) (split .1)
+    in
+    let rest = protected-kept s′ m′ _ _ (one .holds) p inside (now .mark) calls still in
     let later =
     subst (λ (o : ℕ). howMany (handsOut o) (history s′ calls) ≡ 0) (now .hazard) (rest .2)
     in

@@ -20,9 +20,9 @@ use Rattle.entries.specs.Sizes.{positions}
 use Rattle.entries.specs.Entries.{thread, idleThread, emptySlot, withHazard, withHandover}
 use Rattle.pool.specs.Pool.{isFree}
 use Rattle.machine.specs.Parts.{linkAt, slotAt, withLink, withThread, withSlot, withPool}
-use Rattle.promise.specs.Store.{Store}
+use Rattle.promise.specs.Store.{Store, tagOfRecord}
 use Rattle.promise.specs.Reading.{Reading, recordOf}
-use Rattle.promise.specs.Holdings.{SameHoldings}
+use Rattle.promise.specs.Holdings.{SameHoldings, IsKept, SameRecords}
 
 -- an object of n that is not free
 abbrev pub Live : ℕ → Pool → ℕ → Type 0
@@ -50,6 +50,11 @@ record-none r = refl
 pub record-some : (r : Reading) (o : ℕ) → 0 < o → recordOf r o ≡ r .last o
 unfolding recordOf
 record-some r o some = rw (ne-eqb o 0 (λ e. omega arith))
+
+-- the tag of a record is the one that its take gave
+pub record-tag : (store : Store) (n : ℕ) → 0 < n → tagOfRecord store n ≡ getD (store .tags) (n - 1) 0
+unfolding tagOfRecord
+record-tag store n some = rw (ne-eqb n 0 (λ e. omega arith))
 
 -- equal objects are equal records, and different ones different
 module _ {n : ℕ} {pool : Pool} {tags : List ℕ} {r : Reading} {records : List ℕ} (m : Named n pool tags r records) where
@@ -148,3 +153,21 @@ module _ (s : State) (r : Reading) (store : Store) (m : SameHoldings s r store) 
   -- the pool is not looked at
   pub same-pool : (pool : Pool) (o tag : ℕ) → SameHoldings (withPool s pool o tag) r store
   same-pool pool o tag = record { links = m .links; hands = m .hands; slots = m .slots }
+
+-- what is said of the records, by the reading's own numbers
+pub records-same : (s : State) (r : Reading) (store : Store) → Same s r store → SameRecords s r store
+records-same s r store same =
+    let live : (o : ℕ) → IsKept s o → Live (s .sizes .objects) (s .pool) o = λ o k. (k .some, k .most, k .kept) in
+    let is : (o : ℕ) → IsKept s o → recordOf r o ≡ r .last o = λ o k. record-some r o (k .some) in
+    let count = same .names .count in
+    record {
+      recorded =
+          λ o k.
+          let known = same .names .known o (live o k) in
+          rw (is o k) (known .0, omega arith);
+      apart = λ o o′ k k′ e. same .names .apart o o′ (live o k) (live o′ k′) (sym (is o k) ∙ e ∙ is o′ k′);
+      tagged =
+          λ o k.
+          let known = same .names .known o (live o k) in
+          rw (is o k) (record-tag store (r .last o) (known .0) ∙ same .names .tagged o (live o k));
+    }

@@ -12,11 +12,13 @@ use Rattle.machine.specs.declared.Call.{Call}
 use Rattle.machine.specs.declared.Outcome.{Outcome}
 use Rattle.entries.specs.declared.Slot.{Slot}
 use Rattle.entries.specs.declared.Phase.{Phase}
+use Rattle.entries.specs.declared.Phase.the-variants.{Published}
 use Rattle.basics.specs.Tests.{same-or-not}
 use Rattle.basics.specs.Functions.{put, put-same, put-other}
 use Rattle.basics.specs.Rows.{first-from}
 use Rattle.entries.specs.Sizes.{positions}
 use Rattle.entries.specs.Entries.{withHazard, withHandover}
+use Rattle.entries.specs.Phases.{protecting}
 use Rattle.pool.specs.Promise.{free-is-object, taken-out, put-back}
 use Rattle.machine.specs.Parts.{linkAt, slotAt, handOf, phaseOf, positionOf, tagOf, withThread, withSlot, withLink, become}
 use Rattle.machine.specs.Sound.{limits, thread-long, link-long, slot-long, tag-long, its-position, marked-object, its-slot}
@@ -28,9 +30,10 @@ use Rattle.laws.specs.OnePlace.{carried-not-free}
 use Rattle.laws.specs.Ways.{named, Does, NamesProtected, Way, refused, takes, begins, swaps, moves, reads, retires, clears, publishes, protects, finds-nothing, loads-again, finishes, drains, meets, passes, frees, leaves, displaces}
 use Rattle.promise.specs.Store.{Store, take, protect, swap, read, retire, clear, says, next, tagOfRecord}
 use Rattle.promise.specs.Reading.{Reading, noted, renamed, recordOf}
-use Rattle.promise.specs.Listing.{listedOf, atOnce, ending}
+use Rattle.promise.specs.Asked.{Memory}
+use Rattle.promise.specs.Listing.{listedOf, atOnce}
 use Rattle.promise.specs.Holdings.{SameHoldings}
-use Rattle.promise.specs.Lemmas.Same.{Held, Same, record-none, record-some, compare-records, compare-none, named-freed, same-hand, same-link, same-slot, same-pool}
+use Rattle.promise.specs.Lemmas.Same.{Held, Same, record-none, record-some, compare-records, compare-none, record-tag, named-freed, same-hand, same-link, same-slot, same-pool}
 use Rattle.promise.specs.Lemmas.SameTake.{taking, held-same, taken-record, named-taken, holdings-taken}
 use Rattle.promise.specs.Lemmas.Invariant.{Invariant, Matches, one-listed, none-listed, links-held, hands-held, slots-held}
 
@@ -38,7 +41,7 @@ both-off : (b : Bool) → (b && false) ≡ false
 both-off true = refl
 both-off false = refl
 
-module _ (s : State) (c : Call) (r : Reading) (store : Store) (v : Invariant s r store) where
+module _ (s : State) (c : Call) (m : Memory) (r : Reading) (store : Store) (v : Invariant s m r store) where
   abbrev t : ℕ
   t = c .thread
 
@@ -70,13 +73,13 @@ module _ (s : State) (c : Call) (r : Reading) (store : Store) (v : Invariant s r
       }
 
   -- a handover changed
-  handover-same : {n : ℕ} → Does s c n → (p into : ℕ) (phase : Phase) → p < positions (s .sizes)
-      → Same (become (withSlot s p (withHandover (slotAt s p) into)) t phase) r store
-  handover-same d p into phase inside =
+  handover-same : {n : ℕ} → Does s c n → (p left : ℕ) (phase : Phase) → p < positions (s .sizes)
+      → Same (become (withSlot s p (withHandover (slotAt s p) left)) t phase) r store
+  handover-same d p left phase inside =
       record {
         holdings =
             becoming d _ store phase
-            (same-slot s r store (v .same .holdings) p (withHandover (slotAt s p) into) (store .slots) (slot-long s (v .sound .ranged) p inside) (λ q ne. refl)
+            (same-slot s r store (v .same .holdings) p (withHandover (slotAt s p) left) (store .slots) (slot-long s (v .sound .ranged) p inside) (λ q ne. refl)
             (v .same .holdings .slots p))
             refl refl refl;
         names = v .same .names;
@@ -112,21 +115,23 @@ module _ (s : State) (c : Call) (r : Reading) (store : Store) (v : Invariant s r
 
   -- the tag of the record of an object that is held is the object's
   tag-same : (o : ℕ) → Held (s .sizes .objects) (s .pool) o → 0 < o → tagOfRecord store (recordOf r o) ≡ tagOf s o
-  tag-same o held some = ap (tagOfRecord store) (record-some r o some) ∙ v .same .names .tagged o (held some)
+  tag-same o held some =
+      let known = v .same .names .known o (held some) in
+      ap (tagOfRecord store) (record-some r o some) ∙ record-tag store (r .last o) (known .0) ∙ v .same .names .tagged o (held some)
 
   -- a slot that is not protected may hold anything in the store
   slot-forgotten : (p x : ℕ) → ((slotAt s p) .mark ≡ true → ⊥)
       → SameHoldings s r (record { links = store .links; hands = store .hands; slots = put (store .slots) p x; tags = store .tags })
   slot-forgotten p x unmarked =
-      let m = v .same .holdings in
+      let same = v .same .holdings in
       record {
-        links = m .links;
-        hands = m .hands;
+        links = same .links;
+        hands = same .hands;
         slots =
             λ q under marked.
             same-or-not (put (store .slots) p x q ≡ recordOf r ((slotAt s q) .hazard)) q p
             (λ e. absurd (unmarked (subst (λ (k : ℕ). (slotAt s k) .mark ≡ true) e marked)))
-            (λ ne. put-other (store .slots) p x q ne ∙ m .slots q under marked);
+            (λ ne. put-other (store .slots) p x q ne ∙ same .slots q under marked);
       }
 
   -- what the store's link holds is the record of what the machine's holds
@@ -136,12 +141,17 @@ module _ (s : State) (c : Call) (r : Reading) (store : Store) (v : Invariant s r
   link-held : {link o : ℕ} → link < s .sizes .links → linkAt s link ≡ o → Held (s .sizes .objects) (s .pool) o
   link-held {link} {o} inside e = subst (Held (s .sizes .objects) (s .pool)) e (links-held s (v .sound) link inside)
 
-  pub matches : {o : Outcome} → Way s c o → Matches s c r store o
-  unfolding listedOf atOnce ending numbersOf noted renamed says next
+  -- the protect that a thread in Published ends is the one that it asked for
+  asked-for : {slot link : ℕ} → t < s .sizes .threads → phaseOf s t ≡ Published slot link → (m .slot t ≡ slot) × (m .link t ≡ link)
+  unfolding protecting
+  asked-for {slot} {link} under was = let asked = v .remembers .fits t under slot link (ap protecting was) in (asked .1, asked .2)
+
+  pub matches : {o : Outcome} → Way s c o → Matches s c m r store o
+  unfolding listedOf atOnce numbersOf noted renamed says next
   matches (refused {k = k} first) =
       let high = first-from (refusals-high s c) first in
       let far : leb k 11 ≡ false = lt-leb k 11 high in
-      none-listed s c r store _ (rw (far, both-off (leb 1 k))) (v .same)
+      none-listed s c m r store _ (rw (far, both-off (leb 1 k))) (v .same)
   matches (takes {o = o} d empty is free) =
       let n = s .sizes .objects in
       let ranged = v .sound .ranged in
@@ -153,7 +163,7 @@ module _ (s : State) (c : Call) (r : Reading) (store : Store) (v : Invariant s r
       let record-is = taken-record n (s .pool) _ (s .tags) r (store .tags) names o (c .tag) (object .0) less free (out .others) in
       let same = held-same n (s .pool) _ (s .tags) r (store .tags) names o (c .tag) (object .0) less free (out .others) in
       let number : suc (length (store .tags)) ≡ recordOf (taking r o) o = ap suc (names .count) ∙ sym record-is in
-      one-listed s c r store _ (take t (c .tag)) (rw (d .operation)) (ap (λ (k : ℕ). numbers 1 k 0) number)
+      one-listed s c m r store _ (take t (c .tag)) (rw (d .operation)) (ap (λ (k : ℕ). numbers 1 k 0) number)
       (record {
         holdings =
             holdings-taken s r (taking r o) store (v .same .holdings) t o (c .tag) (phaseOf s t) _ _ (thread-long s (v .sound .ranged) t (d .thread)) number
@@ -162,7 +172,7 @@ module _ (s : State) (c : Call) (r : Reading) (store : Store) (v : Invariant s r
             (λ p under marked. same ((slotAt s p) .hazard) (slots-held s (v .sound) (v .guarded) p under marked));
         names = named-taken n (s .pool) _ (s .tags) r (store .tags) names o (c .tag) (object .0) less free (out .others);
       })
-  matches (begins d idle slot link is) = none-listed s c r store _ (rw (d .operation)) (thread-same d _)
+  matches (begins d idle slot link is) = none-listed s c m r store _ (rw (d .operation)) (thread-same d _)
   matches (swaps {o = o} d link protected is same) =
       let both : eqb (store .links (c .link)) (cond (eqb (c .slot) 255) 0 (store .slots (named s c))) ≡ true =
       swap-alike link protected ∙ eq-eqb _ _ (is ∙ same)
@@ -174,7 +184,7 @@ module _ (s : State) (c : Call) (r : Reading) (store : Store) (v : Invariant s r
       (λ j ne. put-other (store .links) (c .link) (store .hands t) j ne)
       (put-same (store .links) (c .link) (store .hands t) ∙ v .same .holdings .hands t (d .thread))
       in
-      one-listed s c r store _ (swap t (c .slot) (c .link)) (rw (d .operation))
+      one-listed s c m r store _ (swap t (c .slot) (c .link)) (rw (d .operation))
       (rw both (ap (λ (k : ℕ). numbers 6 k 0) links))
       (rw both
       (record {
@@ -188,7 +198,7 @@ module _ (s : State) (c : Call) (r : Reading) (store : Store) (v : Invariant s r
       let both : eqb (store .links (c .link)) (cond (eqb (c .slot) 255) 0 (store .slots (named s c))) ≡ false =
       swap-alike link protected ∙ ne-eqb _ _ other
       in
-      one-listed s c r store _ (swap t (c .slot) (c .link)) (rw (d .operation)) (rw both) (rw both (v .same))
+      one-listed s c m r store _ (swap t (c .slot) (c .link)) (rw (d .operation)) (rw both) (rw both (v .same))
   matches (reads d inside marked) =
       let hazard = (slotAt s (named s c)) .hazard in
       let some = marked-object s (v .sound .ranged) (named s c) inside marked .0 in
@@ -196,9 +206,9 @@ module _ (s : State) (c : Call) (r : Reading) (store : Store) (v : Invariant s r
       ap (tagOfRecord store) (v .same .holdings .slots (named s c) inside marked) ∙
       tag-same hazard (slots-held s (v .sound) (v .guarded) (named s c) inside marked) some
       in
-      one-listed s c r store _ (read t (c .slot)) (rw (d .operation)) (ap (λ (k : ℕ). numbers 8 k 0) tag) (v .same)
+      one-listed s c m r store _ (read t (c .slot)) (rw (d .operation)) (ap (λ (k : ℕ). numbers 8 k 0) tag) (v .same)
   matches (retires {o = o} d idle full some) =
-      one-listed s c r store _ (retire t) (rw (d .operation))
+      one-listed s c m r store _ (retire t) (rw (d .operation))
       (ap (λ (k : ℕ). numbers 2 k 0) (v .same .holdings .hands t (d .thread) ∙ ap (recordOf r) full))
       (record {
         holdings =
@@ -208,14 +218,14 @@ module _ (s : State) (c : Call) (r : Reading) (store : Store) (v : Invariant s r
         names = v .same .names;
       })
   matches (clears d idle slot) =
-      one-listed s c r store _ (clear t (c .slot)) (rw (d .operation)) (ap (λ (k : ℕ). numbers 2 k 0) (sym (record-none r)))
+      one-listed s c m r store _ (clear t (c .slot)) (rw (d .operation)) (ap (λ (k : ℕ). numbers 2 k 0) (sym (record-none r)))
       (hazard-same d _ 0 false _ (put (store .slots) (named s c) 0) (its-position s (v .sound .ranged) t (c .slot) (d .thread) slot)
       (λ q ne. put-other (store .slots) (named s c) 0 q ne)
-      (λ m. absurd (false≢true m)))
+      (λ on. absurd (false≢true on)))
   matches (publishes {slot = slot} {o = o} d was inside inside′ most) =
-      none-listed s c r store _ (rw (d .operation))
+      none-listed s c m r store _ (rw (d .operation))
       (hazard-same d _ o false _ (store .slots) (its-position s (v .sound .ranged) t slot (d .thread) inside) (λ q ne. refl)
-      (λ m. absurd (false≢true m)))
+      (λ on. absurd (false≢true on)))
   matches (protects {slot = slot} {link = link} {o = o} d was inside inside′ is same some) =
       let p = positionOf s t slot in
       let links = link-record inside′ is in
@@ -223,18 +233,20 @@ module _ (s : State) (c : Call) (r : Reading) (store : Store) (v : Invariant s r
       let there : eqb (store .links link) 0 ≡ false =
       rw links (compare-none (v .same .names) o held ∙ ne-eqb o 0 (λ e. omega arith))
       in
-      one-listed s c r store _ (protect t slot link) (rw (d .operation, was))
+      let asked = asked-for (d .thread) was in
+      one-listed s c m r store _ (protect t slot link) (rw (d .operation, asked .0, asked .1))
       (rw there
       (ap (λ (k : ℕ). numbers 4 k (tagOfRecord store k)) links ∙ ap (numbers 4 (recordOf r o)) (tag-same o held some)))
       (hazard-same d p _ true _ (put (store .slots) p (store .links link)) (its-position s (v .sound .ranged) t slot (d .thread) inside)
       (λ q ne. put-other (store .slots) p (store .links link) q ne)
-      (λ m. put-same (store .slots) p (store .links link) ∙ links ∙ ap (recordOf r) same))
+      (λ on. put-same (store .slots) p (store .links link) ∙ links ∙ ap (recordOf r) same))
   matches (finds-nothing {slot = slot} {link = link} d was inside inside′ is none) =
       let p = positionOf s t slot in
       let at = its-position s (v .sound .ranged) t slot (d .thread) inside in
       let links = link-record inside′ is ∙ record-none r in
       let there : eqb (store .links link) 0 ≡ true = eq-eqb _ _ links in
-      one-listed s c r store _ (protect t slot link) (rw (d .operation, was)) (rw there)
+      let asked = asked-for (d .thread) was in
+      one-listed s c m r store _ (protect t slot link) (rw (d .operation, asked .0, asked .1)) (rw there)
       (record {
         holdings =
             becoming d s _ _
@@ -242,21 +254,21 @@ module _ (s : State) (c : Call) (r : Reading) (store : Store) (v : Invariant s r
             refl refl refl;
         names = v .same .names;
       })
-  matches (loads-again d was inside inside′ is other) = none-listed s c r store _ (rw (d .operation)) (thread-same d _)
-  matches (finishes p d was inside empty) = none-listed s c r store _ (rw (d .operation)) (handover-same d p 0 _ inside)
-  matches (drains p next′ d was inside full scans) = none-listed s c r store _ (rw (d .operation)) (handover-same d p 0 next′ inside)
-  matches (meets next′ d was inside match scans) = none-listed s c r store _ (rw (d .operation)) (thread-same d next′)
-  matches (passes next′ d was inside other scans) = none-listed s c r store _ (rw (d .operation)) (thread-same d next′)
+  matches (loads-again d was inside inside′ is other) = none-listed s c m r store _ (rw (d .operation)) (thread-same d _)
+  matches (finishes p d was inside empty) = none-listed s c m r store _ (rw (d .operation)) (handover-same d p 0 _ inside)
+  matches (drains p next′ d was inside full scans) = none-listed s c m r store _ (rw (d .operation)) (handover-same d p 0 next′ inside)
+  matches (meets next′ d was inside match scans) = none-listed s c m r store _ (rw (d .operation)) (thread-same d next′)
+  matches (passes next′ d was inside other scans) = none-listed s c m r store _ (rw (d .operation)) (thread-same d next′)
   matches (frees {o = o} next′ d was past ended fine) =
       let ranged = v .sound .ranged in
       let taken = carried-not-free s (v .sound) o (was .some) (was .most) t (d .thread) (was .carries) in
       let back = put-back (s .sizes .objects) (s .pool) ((limits s ranged) .objects) (ranged .pool) o (was .some) (was .most) taken in
-      none-listed s c r store _ (rw (d .operation))
+      none-listed s c m r store _ (rw (d .operation))
       (record {
         holdings = becoming d _ store next′ (same-pool s r store (v .same .holdings) _ o 0) refl refl refl;
         names = named-freed (v .same .names) _ o (was .some) (back .this) (back .others);
       })
   matches (leaves {o = o} {q = q} next′ d was inside empty ended fine) =
-      none-listed s c r store _ (rw (d .operation)) (handover-same d q o next′ inside)
+      none-listed s c m r store _ (rw (d .operation)) (handover-same d q o next′ inside)
   matches (displaces {o = o} {q = q} next′ d was inside full scans) =
-      none-listed s c r store _ (rw (d .operation)) (handover-same d q o next′ inside)
+      none-listed s c m r store _ (rw (d .operation)) (handover-same d q o next′ inside)

@@ -67,7 +67,7 @@ both-off true = refl
 both-off false = refl
 
 abbrev event : State → Call → Outcome → Event
-event s c o = record { before = s; call = c; answer = o .answer }
+event s c o = record { call = c; answer = o .answer }
 
 -- the counts of an event that is neither
 abbrev Still : State → Call → Outcome → Type 0
