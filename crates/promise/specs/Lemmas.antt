@@ -1,4 +1,4 @@
--- Lemmas nobody needs to read. What they lead to is stated in Promise.
+-- Lemmas nobody needs to read. What they lead to is stated in Promise and Enough.
 pub mod Guarded
 pub mod Waiting
 pub mod Same
@@ -10,3 +10,4 @@ pub mod Runs
 pub mod FreedUnheld
 pub mod ProtectedKept
 pub mod Parts
+pub mod Enough
