@@ -47,7 +47,7 @@ abbrev sizesFor : ℕ → ℕ → Sizes
 sizesFor t h = sizes t h 1 (t * (h + 1))
 
 -- accepted retires less Freed answers
-abbrev pub unfreed : List Event → ℕ
+abbrev unfreed : List Event → ℕ
 unfreed events = retires events - freed events
 
 -- the sizes are in range and the run reaches the bound, on the machine that does not look for 19
