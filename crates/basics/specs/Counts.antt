@@ -77,6 +77,21 @@ module _ {A : Type 0} (test : A → Bool) where
       let rest = how-many-under xs n d (λ i low. off (suc i) (omega arith)) in
       omega arith
 
+  -- and where it fails at one number under n as well, fewer than n do
+  pub how-many-missing : (xs : List A) (n i : ℕ) (d : A) → i < n → test (getD xs i d) ≡ false
+      → ((j : ℕ) → n ≤ j → test (getD xs j d) ≡ false) → howMany test xs + 1 ≤ n
+  unfolding howMany bit
+  how-many-missing [] n i d less fails off = omega arith
+  how-many-missing (x ∷ xs) zero i d less fails off = absurd (omega arith)
+  how-many-missing (x ∷ xs) (suc n) zero d less fails off =
+      let here : bit (test x) ≡ 0 = rw fails in
+      let rest = how-many-under xs n d (λ j low. off (suc j) (omega arith)) in
+      omega arith
+  how-many-missing (x ∷ xs) (suc n) (suc i) d less fails off =
+      let here = bit-most (test x) in
+      let rest = how-many-missing xs n i d (omega arith) fails (λ j low. off (suc j) (omega arith)) in
+      omega arith
+
   how-many-suc : (xs : List A) (i : ℕ) (d : A) → i < length xs → howMany test (take (suc i) xs) ≡ howMany test (take i xs) + bit (test (getD xs i d))
   unfolding howMany
   how-many-suc [] i d h = absurd (not-suc-le-zero h)

@@ -2,11 +2,11 @@
 use Prim.Native.Nat.{ℕ, _≤_}
 use native.Mathlib.Omega.{arith}
 use mathlib.Core.Path.{_≡_, refl, sym, subst}
-use mathlib.Core.Bool.{Bool, true, false, cond, _&&_}
+use mathlib.Core.Bool.{Bool, true, false, cond, not, _&&_}
 use mathlib.Core.Logic.{⊎-elim, _⊎_, inl, inr}
 use mathlib.Core.List.{List, [], _∷_, _++_}
-use lib.Dec.{leb}
-use borrow.Author.Tests.{leb-true}
+use lib.Dec.{leb, eqb}
+use borrow.Author.Tests.{leb-true, eqb-false, not-true}
 use Rattle.basics.specs.Tests.{tested, and-l, and-r}
 
 -- a line of the table: the number, and whether it applies
@@ -102,3 +102,23 @@ goes-on back (pass {row = row} no′ rest) = rw no′ (goes-on back rest)
 pub none-split : (front : List Row) {back : List Row} → NoneApplies (front ++ back) → NoneApplies front × NoneApplies back
 none-split [] all = (none, all)
 none-split (row ∷ rows) (pass no′ rest) = let parts = none-split rows rest in (pass no′ (parts .0), parts .1)
+
+-- no line has this number
+unfoldable pub without : ℕ → List Row → Bool
+without n [] = true
+without n (row ∷ rows) = not (eqb (row .number) n) && without n rows
+
+-- a number that no line of the first table has is the second's, and the first is passed
+pub first-split : (front : List Row) {back : List Row} {n : ℕ} → without n front ≡ true → FirstIs (front ++ back) n
+    → NoneApplies front × FirstIs back n
+unfolding without
+first-split [] h first = (none, first)
+first-split (row ∷ rows) {n = n} h (here on) =
+    absurd (eqb-false (row .number) n (not-true (eqb (row .number) n) (and-l _ (without n rows) h)) refl)
+first-split (row ∷ rows) {n = n} h (later off rest) =
+    let parts = first-split rows (and-r (not (eqb (row .number) n)) _ h) rest in
+    (pass off (parts .0), parts .1)
+
+-- of a table of one line, that line
+pub only-line : {row : Row} {n : ℕ} → FirstIs (row ∷ []) n → row .applies ≡ true
+only-line (here on) = on

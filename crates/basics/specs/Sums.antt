@@ -21,7 +21,7 @@ sum-ones (suc n) f h =
     let rest = sum-ones n (λ k. f (suc k)) (λ k less. h (suc k) (omega arith)) in
     omega arith
 
-sum-zeros : (n : ℕ) (f : ℕ → ℕ) → ((k : ℕ) → f k ≡ 0) → sumTo n f ≡ 0
+pub sum-zeros : (n : ℕ) (f : ℕ → ℕ) → ((k : ℕ) → f k ≡ 0) → sumTo n f ≡ 0
 unfolding sumTo
 sum-zeros zero f h = refl
 sum-zeros (suc n) f h =

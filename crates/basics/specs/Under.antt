@@ -59,6 +59,11 @@ under-at (suc n) test all k h =
     (λ l. under-at n test (both (allUnder n test) (test n) all .0) k l)
     (eq-or-lt-of-le (le-of-suc-le-suc h))
 
+-- each of 1 to n, where the test of k asks about k + 1
+pub from-one : (n : ℕ) (test : ℕ → Bool) → allUnder n (λ k. test (suc k)) ≡ true → (k : ℕ) → 1 ≤ k → k ≤ n → test k ≡ true
+from-one n test all zero low high = absurd (omega arith)
+from-one n test all (suc k) low high = under-at n (λ k. test (suc k)) all k high
+
 -- fewer pass
 pub under-fewer : (m n : ℕ) (test : ℕ → Bool) → m ≤ n → allUnder n test ≡ true → allUnder m test ≡ true
 under-fewer m n test h all = under-all m test (λ k l. under-at n test all k (omega arith))

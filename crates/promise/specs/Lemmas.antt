@@ -1,4 +1,4 @@
--- Lemmas nobody needs to read. What they lead to is stated in Promise.
+-- Lemmas nobody needs to read. What they lead to is stated in Promise and Enough.
 pub mod Guarded
 pub mod Waiting
 pub mod Same
@@ -13,3 +13,4 @@ pub mod ProtectedKept
 pub mod Waits
 pub mod GivenUp
 pub mod Parts
+pub mod Enough

@@ -177,14 +177,14 @@ module _ (s : State) (c : Call) (h : Sound s) where
       rw (d .operation) (omega arith)
 
 module _ (s : State) (r : Ranged s) where
-  handovers-end : (i : ℕ) → positions (s .sizes) ≤ i → isObject ((slotAt s i) .handover) ≡ false
+  pub handovers-end : (i : ℕ) → positions (s .sizes) ≤ i → isObject ((slotAt s i) .handover) ≡ false
   handovers-end i low =
       by-test (isObject ((slotAt s i) .handover) ≡ false) (ltb i 32)
       (λ inside. ap (λ (x : Slot). isObject (x .handover)) (slot-empty (s .sizes) i (slotAt s i) low (r .slots i (ltb-true i 32 inside))))
       (λ past.
       ap (λ (x : Slot). isObject (x .handover)) (List·getD-eq-default (s .slots) emptySlot (rw (r .shape .slots) (ltb-false i 32 past))))
 
-  carried-end : (i : ℕ) → s .sizes .threads ≤ i → isObject (carriedBy (phaseOf s i)) ≡ false
+  pub carried-end : (i : ℕ) → s .sizes .threads ≤ i → isObject (carriedBy (phaseOf s i)) ≡ false
   unfolding carriedBy
   carried-end i low =
       by-test (isObject (carriedBy (phaseOf s i)) ≡ false) (ltb i 8)
