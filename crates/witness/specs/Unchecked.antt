@@ -1,7 +1,7 @@
 -- The machine with the first line of its table, 19, left out. It computes far sooner, since no step looks through all objects, and from a
 -- sound state it is the same machine, because 19 never applies there. So a run of it from a fresh machine is a run of the machine. Nothing here
 -- has to be believed.
-use mathlib.Core.Path.{_≡_, refl, ap}
+use mathlib.Core.Path.{_≡_, refl}
 use mathlib.Core.Bool.{true, cond}
 use mathlib.Core.List.{List, [], _∷_}
 use lib.Dec.{eqb}
@@ -19,7 +19,7 @@ use Rattle.machine.specs.Refusals.{callRows}
 use Rattle.machine.specs.Accepted.{else-the-rest}
 use Rattle.machine.specs.Step.{doneOf, stepOf}
 use Rattle.laws.specs.Promise.{fresh-is-sound, step-keeps-sound}
-use Rattle.promise.specs.History.{Machine, Event, eventOf, historyBy, stateBy, history, stateAfter}
+use Rattle.promise.specs.History.{Machine, historyBy, stateBy, history, stateAfter}
 use Rattle.promise.specs.Run.{events, state}
 use Rattle.promise.specs.Moments.{always-sound}
 
@@ -35,9 +35,7 @@ same-step s c h = rw (else-the-rest s c h)
 same-history : (s : State) → sound s ≡ true → (calls : List Call) → historyBy unchecked s calls ≡ history s calls
 unfolding historyBy
 same-history s h [] = refl
-same-history s h (c ∷ calls) =
-    rw (same-step s c h)
-    (ap (λ (rest : List Event). eventOf s c ∷ rest) (same-history ((stepOf s c) .state) (step-keeps-sound s c h) calls))
+same-history s h (c ∷ calls) = rw (same-step s c h, same-history ((stepOf s c) .state) (step-keeps-sound s c h) calls)
 
 same-state : (s : State) → sound s ≡ true → (calls : List Call) → stateBy unchecked s calls ≡ stateAfter s calls
 unfolding stateBy
