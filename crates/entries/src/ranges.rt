@@ -55,7 +55,7 @@ pub fn sizes_good(z: Sizes) -> bool
 }
 
 // How many positions there are, for any sizes.
-pub fn positions(z: Sizes) -> usize
+pub(crate) fn positions(z: Sizes) -> usize
     ensures { λ r. ⌜ r ≡ positions z ⌝ }
 {
     wide(z.threads) * wide(z.slots)
@@ -180,7 +180,7 @@ fn swap_in_range(z: Sizes, object: u8, position: u8) -> bool
     within(1, z.objects, object) && wide(position) < positions(z)
 }
 
-pub fn phase_in_range(z: Sizes, phase: Phase) -> bool
+pub(crate) fn phase_in_range(z: Sizes, phase: Phase) -> bool
     ensures { λ r. ⌜ r ≡ phaseInRange z phase ⌝ }
 {
     match phase {

@@ -11,7 +11,7 @@ ghost use mathlib.Core.Path.{_≡_};
 ghost use Rattle.script.specs.Fields.{operationOf, byteOrZero, slotOf, tagOf};
 
 // An operation is a name, or a number of one byte, which is not judged.
-pub fn operation_of(word: &[u8]) -> Byte
+pub(crate) fn operation_of(word: &[u8]) -> Byte
     ensures { λ r. ⌜ r ≡ operationOf (now (word .entry)) ⌝ }
 {
     let name = named(word);
@@ -25,7 +25,7 @@ pub fn operation_of(word: &[u8]) -> Byte
 }
 
 // A byte; 0 where the line has no word for it.
-pub fn byte_or_zero(word: &[u8]) -> Byte
+pub(crate) fn byte_or_zero(word: &[u8]) -> Byte
     ensures { λ r. ⌜ r ≡ byteOrZero (now (word .entry)) ⌝ }
 {
     if word.len() == 0 {
@@ -35,7 +35,7 @@ pub fn byte_or_zero(word: &[u8]) -> Byte
 }
 
 // A slot: a byte, and in a swap also no slot, which is 255.
-pub fn slot_of(operation: u8, word: &[u8]) -> Byte
+pub(crate) fn slot_of(operation: u8, word: &[u8]) -> Byte
     ensures { λ r. ⌜ r ≡ slotOf operation (now (word .entry)) ⌝ }
 {
     if operation == 3 {
@@ -48,7 +48,7 @@ pub fn slot_of(operation: u8, word: &[u8]) -> Byte
 }
 
 // A tag has 32 bits; 0 where the line has no word for it.
-pub fn tag_of(word: &[u8]) -> Number
+pub(crate) fn tag_of(word: &[u8]) -> Number
     ensures { λ r. ⌜ r ≡ tagOf (now (word .entry)) ⌝ }
 {
     if word.len() == 0 {

@@ -1,12 +1,12 @@
 // A schedule written as text, read into schedule records. The types stand here.
 // `words` finds the words of a line, `numbers` and `names` read one word, `fields` reads a word in its place, `lines` reads a whole
 // line, and `packing` turns a whole text into records, or says which line is wrong and why.
-pub mod fields;
-pub mod lines;
-pub mod names;
-pub mod numbers;
+mod fields;
+mod lines;
+mod names;
+mod numbers;
 pub mod packing;
-pub mod words;
+mod words;
 
 use records::SizesRecord;
 use records::StepRecord;
@@ -62,19 +62,19 @@ pub struct Fault {
 }
 
 // What a word says where a number is wanted.
-pub enum Number {
+pub(crate) enum Number {
     Value(u32),
     Bad(Why),
 }
 
 // What a word says where a byte is wanted.
-pub enum Byte {
+pub(crate) enum Byte {
     Value(u8),
     Bad(Why),
 }
 
 // What a line says.
-pub enum Line {
+pub(crate) enum Line {
     Nothing,
     Sizes(SizesRecord),
     Step(StepRecord),
@@ -82,7 +82,7 @@ pub enum Line {
 }
 
 // What reading one more line gives: how many bytes of the buffer are full then, or what is wrong with the line.
-pub enum Took {
+pub(crate) enum Took {
     Full(usize),
     Bad(Fault),
 }

@@ -9,7 +9,7 @@ fn is(word: &[u8], name: &[u8]) -> bool
 }
 
 // The operation of a name, 0 where no operation has it.
-pub fn named(word: &[u8]) -> u8
+pub(crate) fn named(word: &[u8]) -> u8
     ensures { λ r. ⌜ r ≡ namedOf (now (word .entry)) ⌝ }
 {
     if is(word, b"take") {
@@ -40,7 +40,7 @@ pub fn named(word: &[u8]) -> u8
 }
 
 // Whether a word stands for no slot.
-pub fn no_slot(word: &[u8]) -> bool
+pub(crate) fn no_slot(word: &[u8]) -> bool
     ensures { λ r. ⌜ r ≡ noSlot (now (word .entry)) ⌝ }
 {
     if is(word, b"-") {

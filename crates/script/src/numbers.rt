@@ -56,7 +56,7 @@ fn worth(word: &[u8], most: u32) -> Number
 }
 
 // What a word says where a number up to `most` is wanted.
-pub fn number(word: &[u8], most: u32) -> Number
+pub(crate) fn number(word: &[u8], most: u32) -> Number
     ensures { λ r. ⌜ r ≡ numberOf (now (word .entry)) most ⌝ }
 {
     if word.len() == 0 {
@@ -69,7 +69,7 @@ pub fn number(word: &[u8], most: u32) -> Number
 }
 
 // What a word says where a number of one byte is wanted.
-pub fn byte(word: &[u8]) -> Byte
+pub(crate) fn byte(word: &[u8]) -> Byte
     ensures { λ r. ⌜ r ≡ byteOf (now (word .entry)) ⌝ }
 {
     let found = number(word, 255);

@@ -1,0 +1,131 @@
+-- "Any two results allowed by it are proved the same", for the public functions whose law does not stand with them: `machine`'s are in `laws`,
+-- those of `records` and `reasons` in their own Promise.
+use Prim.Native.Nat.{ℕ}
+use mathlib.Core.Path.{_≡_}
+use mathlib.Core.Bool.{_&&_}
+use mathlib.Core.List.{List}
+use lib.ListN.{length, getD, replicate}
+use Rattle.basics.specs.Counts.{bit, howMany}
+use Rattle.basics.specs.Functions.{allowed-once}
+use Rattle.basics.specs.Under.{allUnder}
+use Rattle.pool.specs.declared.Pool.{Pool}
+use Rattle.pool.specs.Pool.{isFree, nextOf, freshPool, takenOut, putBack, freeCount, poolGood, eachOnce}
+use Rattle.entries.specs.declared.Sizes.{Sizes}
+use Rattle.entries.specs.declared.Thread.{Thread}
+use Rattle.entries.specs.declared.Slot.{Slot}
+use Rattle.entries.specs.Sizes.{inRange}
+use Rattle.entries.specs.Phases.{isIdle, carriedBy, scansAt, returnsTo}
+use Rattle.entries.specs.Entries.{idleThread, emptySlot, isObject, sizesGood, linkGood, threadGood, slotGood, tagGood}
+use Rattle.entries.specs.Tally.{tallied}
+use Rattle.lines.specs.Lent as lines
+use Rattle.sentences.specs.Lent as sentences
+use Rattle.script.specs.Packing.{put, packOf}
+
+-- "the result is f of the argument" allows one result
+abbrev pub Once : {A B : Type 0} → (A → B) → Type 0
+Once {A} {B} f = (x : A) (r r′ : B) → r ≡ f x → r′ ≡ f x → r ≡ r′
+
+-- where a buffer is lent: an answer and the buffer's bytes after it, both from the argument, are one answer and the same bytes
+abbrev pub LentOnce : {A B : Type 0} → (A → B) → (A → List ℕ) → Type 0
+LentOnce {A} {B} answer bytes =
+    (x : A) (r r′ : B) (after after′ : List ℕ) → (r ≡ answer x) × (after ≡ bytes x) → (r′ ≡ answer x) × (after′ ≡ bytes x)
+    → (r ≡ r′) × (after ≡ after′)
+
+lent-once : {A B : Type 0} (answer : A → B) (bytes : A → List ℕ) → LentOnce answer bytes
+lent-once answer bytes x r r′ after after′ (a, b) (a′, b′) = (allowed-once answer x r r′ a a′, allowed-once bytes x after after′ b b′)
+
+-- ---- lines, sentences, script: each writes a lent buffer
+
+pub run-once : (input : List ℕ) → LentOnce (lines.answerOf input) (lines.bufferOf input)
+run-once input = lent-once _ _
+
+pub tell-once : (input : List ℕ) → LentOnce (sentences.answerOf input) (sentences.bufferOf input)
+tell-once input = lent-once _ _
+
+pub pack-once :
+    (text : List ℕ) → LentOnce (λ buffer. packOf (length buffer) text .said) (λ buffer. put 0 (packOf (length buffer) text .bytes) buffer)
+pack-once text = lent-once _ _
+
+-- ---- entries
+
+pub in-range-once : Once inRange
+in-range-once = allowed-once _
+
+pub sizes-good-once : Once sizesGood
+sizes-good-once = allowed-once _
+
+pub is-idle-once : Once isIdle
+is-idle-once = allowed-once _
+
+pub carried-once : Once carriedBy
+carried-once = allowed-once _
+
+pub scan-position-once : Once scansAt
+scan-position-once = allowed-once _
+
+pub returns-to-once : Once returnsTo
+returns-to-once = allowed-once _
+
+pub links-good-once : (z : Sizes) → Once (λ (links : List ℕ). allUnder 16 (λ i. linkGood z i (getD links i 0)))
+links-good-once z = allowed-once _
+
+pub threads-good-once : (z : Sizes) → Once (λ (threads : List Thread). allUnder 8 (λ t. threadGood z t (getD threads t idleThread)))
+threads-good-once z = allowed-once _
+
+pub slots-good-once : (z : Sizes) → Once (λ (slots : List Slot). allUnder 32 (λ p. slotGood z p (getD slots p emptySlot)))
+slots-good-once z = allowed-once _
+
+pub tags-good-once : (z : Sizes) → Once (λ (tags : List ℕ). allUnder 240 (λ k. tagGood z k (getD tags k 0)))
+tags-good-once z = allowed-once _
+
+pub in-links-once : Once (howMany isObject)
+in-links-once = allowed-once _
+
+pub in-hands-once : Once (howMany (λ (thread : Thread). isObject (thread .hand)))
+in-hands-once = allowed-once _
+
+pub in-handovers-once : Once (howMany (λ (slot : Slot). isObject (slot .handover)))
+in-handovers-once = allowed-once _
+
+pub are-carried-once : Once (howMany (λ (thread : Thread). isObject (carriedBy (thread .phase))))
+are-carried-once = allowed-once _
+
+pub counts-of-once :
+    (links : List ℕ) (threads : List Thread)
+    → Once (λ (slots : List Slot).
+    tallied (λ (thread : Thread). carriedBy (thread .phase)) threads
+    (tallied (λ (slot : Slot). slot .handover) slots
+    (tallied (λ (thread : Thread). thread .hand) threads
+    (tallied (λ (link : ℕ). link) links (replicate 240 0)))))
+counts-of-once links threads = allowed-once _
+
+-- ---- pool
+
+pub fresh-once : Once freshPool
+fresh-once = allowed-once _
+
+pub next-once : Once nextOf
+next-once = allowed-once _
+
+pub is-free-once : (pool : Pool) → Once (isFree pool)
+is-free-once pool = allowed-once _
+
+pub take-out-once : (pool : Pool) → Once (takenOut pool)
+take-out-once pool = allowed-once _
+
+pub put-back-once : (pool : Pool) → Once (putBack pool)
+put-back-once pool = allowed-once _
+
+pub count-once : Once freeCount
+count-once = allowed-once _
+
+pub is-placed-once : (pool : Pool) (objects : ℕ) → Once (λ (counts : List ℕ). poolGood objects pool && eachOnce objects pool counts)
+is-placed-once pool objects = allowed-once _
+
+-- ---- basics
+
+pub bit-once : Once bit
+bit-once = allowed-once _
+
+pub wide-once : Once {A = ℕ} (λ x. x)
+wide-once = allowed-once _
