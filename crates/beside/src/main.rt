@@ -1,4 +1,5 @@
 // Two machines and a plain store, run beside each other on many schedules and compared.
+mod both;
 mod change;
 mod dice;
 mod draw;
