@@ -34,7 +34,7 @@ fn index(seed: usize, k: usize, size: usize, most: usize) -> usize {
 }
 
 // T × H, where H is at most 4.
-fn positions(threads: u8, slots: u8) -> usize {
+pub fn positions(threads: u8, slots: u8) -> usize {
     let t = plain::wide(threads) % 256;
     match slots {
         0 => 0,
