@@ -1,10 +1,9 @@
 // States made from reachable ones by changing a few fields: sound or not, by both checks, and one call on each.
+use crate::both;
 use crate::dice;
 use crate::draw;
 use crate::draw::Plan;
 use crate::plain;
-use crate::run;
-use crate::totals;
 use crate::totals::Totals;
 use entries::Phase;
 use entries::Slot;
@@ -35,7 +34,7 @@ fn index(seed: usize, k: usize, size: usize, most: usize) -> usize {
 }
 
 // T × H, where H is at most 4.
-fn positions(threads: u8, slots: u8) -> usize {
+pub fn positions(threads: u8, slots: u8) -> usize {
     let t = plain::wide(threads) % 256;
     match slots {
         0 => 0,
@@ -223,30 +222,12 @@ fn changed(seed: usize, s: State) -> State {
     change(dice::mix(seed, 23), twice)
 }
 
-// Both checks on a changed state, and then a call and a count: on a sound one as the twin has them, on another 19, the same
-// state, and five zeros.
+// Both checks on a changed state, and then a call and a count.
 pub fn judged(before: Totals, plan: Plan, index: usize, reached: State) -> Totals {
     let s = changed(dice::mix(plan.seed, index ^ 512), reached);
     let raw = plain::raw(s);
-    let yes = raw.sound();
-    let totals = before.soundness(yes, s.is_sound() == yes);
-    let w = raw.twin();
-    let order = draw::order(plan, index ^ 256, w);
-    let out = s.step(plain::call(order));
-    let answer = out.answer;
-    let next = plain::raw(out.state);
-    let said = plain::said(answer);
-    let seen = totals.see(said.number);
-    let five = run::first_count(s);
-    if yes {
-        let ours = w.step(order);
-        let after = ours.twin;
-        let mine = ours.said;
-        let ended = seen.call(totals::same_said(said, mine))
-            .state(next.same(after.raw()));
-        return ended.count(run::same_five(five, run::twin_count(w)));
-    }
-    let refused = seen.call(said.number == 19 && said.a == 0 && said.b == 0)
-        .state(next.same(raw));
-    refused.count(run::same_five(five, run::none_counted()))
+    let order = draw::order(plan, index ^ 256, raw.twin());
+    let b = both::called(s, order);
+    let seen = before.soundness(b.sound, b.checks).see(b.number);
+    seen.call(b.answers).state(b.states).count(b.counts)
 }

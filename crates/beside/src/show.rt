@@ -2,6 +2,7 @@
 use crate::draw;
 use crate::draw::Plan;
 use crate::plain;
+use crate::seen::Seen;
 use crate::totals::Totals;
 use twin::Order;
 
@@ -16,6 +17,32 @@ pub fn number(n: usize) {
 fn line(s: &[u8], n: usize) {
     text(s);
     number(n);
+    text(b"\n");
+}
+
+// A number and how often it was seen.
+pub fn counted(n: usize, times: usize) {
+    text(b" ");
+    number(n);
+    text(b":");
+    number(times);
+}
+
+// How often what is due was seen, by the keys from `first` up to `end`; a dash where there is no case.
+pub fn row(label: &[u8], s: Seen, first: usize, end: usize) {
+    text(label);
+    for key in 0..160 {
+        if first <= key {
+            if key < end {
+                text(b" ");
+                if s.tried[key] == 0 {
+                    text(b"-");
+                } else {
+                    number(plain::wide32(s.seen[key]));
+                }
+            }
+        }
+    }
     text(b"\n");
 }
 

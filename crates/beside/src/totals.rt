@@ -58,6 +58,17 @@ impl Totals {
         self
     }
 
+    // With the differences of the directed cases.
+    pub fn besides(mut self, more: usize) -> Totals {
+        let n = self.differences;
+        if n < 1000000000 {
+            if more < 1000000000 {
+                self.differences = n + more;
+            }
+        }
+        self
+    }
+
     pub fn start(mut self, good: bool) -> Totals {
         if good {
             self.started = up(self.started);

@@ -1,0 +1,104 @@
+// Starting at both sides of both limits of each size, the three others at their limits.
+use crate::draw;
+use crate::draw::Plan;
+use crate::plain;
+use crate::run;
+use crate::seen;
+use crate::seen::Seen;
+use crate::show;
+use crate::totals;
+
+// "T threads 1 to 8, H hazard slots per thread 1 to 4, L links 1 to 16, N objects 1 to 240".
+fn most(size: usize) -> usize {
+    match size {
+        0 => 8,
+        1 => 4,
+        2 => 16,
+        _ => 240,
+    }
+}
+
+// One below the lower limit, the lower limit, the upper one, one above that.
+pub fn limit(size: usize, side: usize) -> usize {
+    match side {
+        0 => 0,
+        1 => 1,
+        2 => most(size),
+        _ => totals::up(most(size)),
+    }
+}
+
+// One size at one of the four, and the others at the lower or upper limit, by the bits of `others`.
+struct Sides {
+    size: usize,
+    side: usize,
+    others: usize,
+}
+
+impl Sides {
+    fn of(self, size: usize) -> usize {
+        let k = (size % 4 + 4 - self.size % 4) % 4;
+        let others = self.others;
+        let side = match k {
+            0 => self.side,
+            1 => others % 2 + 1,
+            2 => others / 2 % 2 + 1,
+            _ => others / 4 % 2 + 1,
+        };
+        limit(size, side)
+    }
+
+    fn plan(self) -> Plan {
+        Plan {
+            seed: 0,
+            threads: self.of(0),
+            slots: self.of(1),
+            links: self.of(2),
+            objects: self.of(3),
+            length: 0,
+            style: draw::SENSIBLE,
+        }
+    }
+
+    // "Starting with a size out of range is refused 20 and returns the blank state."
+    fn shown(self) -> bool {
+        let plan = self.plan();
+        let due = if (self.side == 0) | (self.side == 3) {
+            20
+        } else {
+            0
+        };
+        let theirs = run::machine_start(plan);
+        let verdict = theirs.verdict;
+        let ours = run::twin_start(plan);
+        let said = ours.said;
+        let twin = ours.twin;
+        let raw = plain::raw(theirs.state);
+        let blank = raw.same(twin::empty());
+        (plain::verdict(verdict) == due)
+            & (said.number == due)
+            & raw.same(twin.raw())
+            & (blank == (due == 20))
+    }
+}
+
+pub fn all(differences: usize) -> Seen {
+    let mut sum = seen::none(differences);
+    for n in 0..128 {
+        let sides = Sides {
+            size: n / 32,
+            side: n / 8 % 4,
+            others: n % 8,
+        };
+        sum = sum.count(n / 8, sides.shown());
+    }
+    sum
+}
+
+pub fn show(s: Seen) {
+    show::text(b"sizes seen refused, started, started, refused\n");
+    show::row(b"  T 0, 1, 8, 9:", s, 0, 4);
+    show::row(b"  H 0, 1, 4, 5:", s, 4, 8);
+    show::row(b"  L 0, 1, 16, 17:", s, 8, 12);
+    show::row(b"  N 0, 1, 240, 241:", s, 12, 16);
+}

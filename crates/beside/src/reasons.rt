@@ -1,0 +1,316 @@
+// 01's sentence on soundness, clause by clause: for each reason a state that is unsound for it alone, and its sound neighbour.
+use crate::both;
+use crate::limits;
+use crate::seen;
+use crate::seen::Seen;
+use crate::show;
+use crate::stage;
+use crate::stage::Setting;
+use crate::totals;
+use entries::Phase;
+use machine::State;
+
+// Every `of_..` below gives reason number `k` of its clause: the unsound state where `bad`, and otherwise its neighbour.
+
+fn with_size(mut z: Setting, size: usize, n: usize) -> Setting {
+    match size {
+        0 => {
+            z.threads = n;
+        }
+        1 => {
+            z.slots = n;
+        }
+        2 => {
+            z.links = n;
+        }
+        _ => {
+            z.objects = n;
+        }
+    }
+    z
+}
+
+// "its sizes are in range": T, H, L and N, each below and above. With N at 0 nothing is free; with N at 241 object 241, which
+// has no mark, is in a link.
+fn of_sizes(z: Setting, k: usize, bad: bool) -> State {
+    let size = k / 2;
+    let above = k % 2 == 1;
+    let inside = limits::limit(size, if above { 2 } else { 1 });
+    let outside = limits::limit(size, if above { 3 } else { 0 });
+    let good = stage::fresh(with_size(z, size, inside));
+    if !bad {
+        return good;
+    }
+    let s = stage::resized(good, with_size(z, size, outside));
+    if size < 3 {
+        return s;
+    }
+    if above {
+        stage::link(s, 0, 241)
+    } else {
+        stage::taken(s, 1)
+    }
+}
+
+// An object in a place: 2 a link, 3 a hand, 4 a handover, 5 carried.
+fn put(s: State, place: usize, at: usize, object: usize) -> State {
+    match place {
+        2 => stage::link(s, at, object),
+        3 => stage::thread(s, at, object, Phase::Idle),
+        4 => stage::slot(s, at, 0, false, object),
+        _ => stage::thread(s, at, 0, stage::phase(4, 0, 0, object, 0)),
+    }
+}
+
+// "all numbers above are in range": what is in a link, a hand, a handover, a hazard.
+fn of_objects(z: Setting, k: usize, bad: bool) -> State {
+    let s = stage::fresh(z);
+    let object = if bad {
+        totals::up(z.objects)
+    } else {
+        z.objects
+    };
+    if k == 3 {
+        return stage::slot(s, 0, object, false, 0);
+    }
+    put(stage::taken(s, object), k % 3 + 2, 0, object)
+}
+
+// The same of what a thread is in the middle of: Loaded's slot, link and object, Published's slot and link, Draining's slot;
+// Look's object above N, its object 0, its position; and Swap's three.
+fn of_phases(z: Setting, k: usize, bad: bool) -> State {
+    let doing = match k {
+        0 | 1 | 2 => 1,
+        3 | 4 => 2,
+        5 => 3,
+        6 | 7 | 8 => 4,
+        _ => 5,
+    };
+    let far_slot = bad & ((k == 0) | (k == 3) | (k == 5));
+    let far_link = bad & ((k == 1) | (k == 4));
+    let far_object = bad & ((k == 2) | (k == 6) | (k == 9));
+    let no_object = bad & ((k == 7) | (k == 10));
+    let far = bad & ((k == 8) | (k == 11));
+    let slot = if far_slot {
+        z.slots
+    } else {
+        stage::last(z.slots)
+    };
+    let link = if far_link {
+        z.links
+    } else {
+        stage::last(z.links)
+    };
+    let object = if far_object {
+        totals::up(z.objects)
+    } else if no_object {
+        0
+    } else {
+        z.objects
+    };
+    let end = if doing == 4 {
+        z.positions
+    } else {
+        stage::last(z.positions)
+    };
+    let position = if far { totals::up(end) } else { end };
+    let fresh = stage::fresh(z);
+    let s = if doing < 4 {
+        fresh
+    } else {
+        stage::taken(fresh, object)
+    };
+    let phase = stage::phase(doing, slot, link, object, position);
+    stage::thread(s, stage::last(z.threads), 0, phase)
+}
+
+// "entries beyond the sizes are 0, idle or unmarked": the first link, hand, phase, hazard, mark, handover, free mark and tag
+// beyond. No object is there, so that none is in two places. A mark there is on a hazard that has to be 0 too.
+fn of_beyond(z: Setting, k: usize, bad: bool) -> State {
+    let s = stage::fresh(z);
+    let above = totals::up(z.objects);
+    if !bad {
+        return s;
+    }
+    match k {
+        0 => stage::link(s, z.links, above),
+        1 => stage::thread(s, z.threads, above, Phase::Idle),
+        2 => stage::thread(s, z.threads, 0, stage::phase(3, 0, 0, 0, 0)),
+        3 => stage::slot(s, z.positions, 1, false, 0),
+        4 => stage::slot(s, z.positions, 0, true, 0),
+        5 => stage::slot(s, z.positions, 0, false, above),
+        6 => stage::freed(s, above),
+        _ => stage::tag(s, above),
+    }
+}
+
+// The same for an object that is nowhere else: in a link, a hand, a handover beyond the sizes, or carried by a thread beyond.
+fn of_moved(z: Setting, k: usize, bad: bool) -> State {
+    let size = match k {
+        0 => z.links,
+        2 => z.positions,
+        _ => z.threads,
+    };
+    let at = if bad { size } else { stage::last(size) };
+    put(stage::taken(stage::fresh(z), 1), k % 4 + 2, at, 1)
+}
+
+// "a protected mark stands only on a hazard that is not 0"; then "every object 1 to N is in exactly one place": in none.
+fn of_mark_or_none(z: Setting, k: usize, bad: bool) -> State {
+    let s = stage::fresh(z);
+    if k == 0 {
+        return stage::slot(
+            s,
+            stage::last(z.positions),
+            if bad { 0 } else { 1 },
+            true,
+            0,
+        );
+    }
+    if bad { stage::taken(s, 1) } else { s }
+}
+
+// In two places: `k` is the one × 5 + the other, of free, a link, a hand, a handover, carried. The second is the second of its
+// kind.
+fn of_two(z: Setting, k: usize, bad: bool) -> State {
+    let fresh = stage::fresh(z);
+    let one = k / 5 % 5 + 1;
+    let s = if one == 1 {
+        fresh
+    } else {
+        put(stage::taken(fresh, 1), one, 0, 1)
+    };
+    if bad { put(s, k % 5 + 1, 1, 1) } else { s }
+}
+
+// "The blank state, all sizes and entries 0, idle and unmarked, is sound too."
+fn blank() -> Setting {
+    Setting {
+        threads: 0,
+        slots: 0,
+        links: 0,
+        objects: 0,
+        positions: 0,
+    }
+}
+
+// The clauses one after the other.
+fn state(z: Setting, reason: usize, bad: bool) -> State {
+    if reason < 8 {
+        return of_sizes(z, reason, bad);
+    }
+    if reason < 12 {
+        return of_objects(z, reason - 8, bad);
+    }
+    if reason < 24 {
+        return of_phases(z, reason - 12, bad);
+    }
+    if reason < 32 {
+        return of_beyond(z, reason - 24, bad);
+    }
+    if reason < 36 {
+        return of_moved(z, reason - 32, bad);
+    }
+    if reason < 38 {
+        return of_mark_or_none(z, reason - 36, bad);
+    }
+    if reason < 63 {
+        return of_two(z, reason - 38, bad);
+    }
+    of_beyond(blank(), reason - 63, bad)
+}
+
+// Each two places once, never free twice; and the blank state in one setting.
+fn is_case(reason: usize, setting: usize) -> bool {
+    if reason < 38 {
+        return true;
+    }
+    if reason < 63 {
+        let k = reason - 38;
+        return (k / 5 <= k % 5) & (k != 0);
+    }
+    setting == 0
+}
+
+// Both checks, all seven calls and the count.
+fn shown(s: State, z: Setting, bad: bool) -> bool {
+    let mut good = true;
+    for op in 1..8 {
+        let b = both::called(s, stage::call(z, op));
+        good = good & b.agree() & (b.sound != bad) & ((b.number == 19) == bad);
+    }
+    good
+}
+
+// A reason has two keys, the first for the unsound states and the second for their neighbours.
+pub fn all(differences: usize) -> Seen {
+    let mut sum = seen::none(differences);
+    for n in 0..3408 {
+        let bad = n / 24 % 2 == 0;
+        let z = stage::chosen(n % 24);
+        if is_case(n / 48, n % 24) {
+            sum = sum.count(n / 24, shown(state(z, n / 48, bad), z, bad));
+        }
+    }
+    sum
+}
+
+pub fn show(s: Seen) {
+    show::text(
+        b"states seen that are unsound for one reason, and beside them their sound neighbours\n",
+    );
+    show::row(b"  T below, above, H below, above:", s, 0, 8);
+    show::row(b"  L below, above, N below, above:", s, 8, 16);
+    show::row(
+        b"  above N in a link, a hand, a handover, a hazard:",
+        s,
+        16,
+        24,
+    );
+    show::row(b"  Loaded's slot, link, object:", s, 24, 30);
+    show::row(b"  Published's slot, link, Draining's slot:", s, 30, 36);
+    show::row(b"  Look's object above N, 0, its position:", s, 36, 42);
+    show::row(b"  Swap's object above N, 0, its position:", s, 42, 48);
+    show::row(
+        b"  beyond the sizes a link, a hand, a phase, a hazard:",
+        s,
+        48,
+        56,
+    );
+    show::row(
+        b"  beyond the sizes a mark, a handover, a free mark, a tag:",
+        s,
+        56,
+        64,
+    );
+    show::row(
+        b"  an object beyond in a link, a hand, a handover, carried:",
+        s,
+        64,
+        72,
+    );
+    show::row(b"  a mark on 0:", s, 72, 74);
+    show::row(b"  an object nowhere:", s, 74, 76);
+    show::row(
+        b"  free and free, in a link, a hand, a handover, carried:",
+        s,
+        76,
+        86,
+    );
+    show::row(b"  in a link and the same five:", s, 86, 96);
+    show::row(b"  in a hand and the same five:", s, 96, 106);
+    show::row(b"  in a handover and the same five:", s, 106, 116);
+    show::row(b"  carried and the same five:", s, 116, 126);
+    show::row(
+        b"  blank but for a link, a hand, a phase, a hazard:",
+        s,
+        126,
+        134,
+    );
+    show::row(
+        b"  blank but for a mark, a handover, a free mark, a tag:",
+        s,
+        134,
+        142,
+    );
+}
