@@ -25,6 +25,6 @@ isFreedLine line = eqb (getD (fieldsOf line) 3 0) 11
 -- "accepted retires less Freed answers equals non-zero handovers plus carried objects, and is at most T × (H + 1). The five places always
 -- sum to N."
 pub record AddsUp (t h n : ℕ) (lines : List Line) (free links hands handovers carried : ℕ) : Type 0 where
-  pub given-up : howMany isFreedLine lines + (handovers + carried) ≡ howMany isRetireLine lines
+  pub as-many : howMany isFreedLine lines + (handovers + carried) ≡ howMany isRetireLine lines
   pub bound : howMany isRetireLine lines - howMany isFreedLine lines ≤ t * (h + 1)
   pub five-places : free + links + hands + handovers + carried ≡ n

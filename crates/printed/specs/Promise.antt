@@ -4,6 +4,7 @@ use mathlib.Core.Path.{_≡_}
 use mathlib.Core.List.{List, [], _∷_, _++_}
 use Rattle.entries.specs.declared.Sizes.{Sizes}
 use Rattle.machine.specs.declared.Call.{Call}
+use Rattle.machine.specs.Step.{stepOf}
 use Rattle.promise.specs.Promise.{Promised, promise}
 use Rattle.lines.specs.Line.{Line, numbers, end}
 use Rattle.lines.specs.Run.{linesOf}
@@ -27,7 +28,7 @@ sentences-of-state = sentences.sentences-of-state
 
 -- All of demand 3 holds of the events and of the state that are printed.
 pub promised :
-    (input : List ℕ) (z : Sizes) (calls : List Call) (ending : Ending) → inputOf input ≡ run z calls ending → Promised z calls
+    (input : List ℕ) (z : Sizes) (calls : List Call) (ending : Ending) → inputOf input ≡ run z calls ending → Promised stepOf z calls
 promised input z calls ending e = promise z (ranged.in-range input z calls ending e) calls
 
 -- And whoever counts in the printed lines alone finds demand 3's counts: in any output that starts with T H L N and comes to `end`.

@@ -9,6 +9,7 @@ use Rattle.machine.specs.declared.Call.{Call}
 use Rattle.machine.specs.Count.{fivePlaces}
 use Rattle.promise.specs.History.{Event, isRetire, isFreed, retires, freed}
 use Rattle.promise.specs.Run.{events, state}
+use Rattle.machine.specs.Step.{stepOf}
 use Rattle.promise.specs.Promise.{Promised, promise}
 use Rattle.lines.specs.Line.{Line, numbers, end}
 use Rattle.lines.specs.Run.{linesOf}
@@ -52,7 +53,7 @@ module _ (t h l n : ℕ) (lines : List Line) (steps free links hands handovers c
   abbrev whole : List Line
   whole = numbers (t ∷ h ∷ l ∷ n ∷ []) ∷ lines ++ last ∷ []
 
-  at-ending : (z : Sizes) (calls : List Call) → Promised z calls → (ending : Ending) → linesOfRun z calls ending ≡ whole → AddsUp t h n lines free links hands handovers carried
+  at-ending : (z : Sizes) (calls : List Call) → Promised stepOf z calls → (ending : Ending) → linesOfRun z calls ending ≡ whole → AddsUp t h n lines free links hands handovers carried
   unfolding linesOfRun endingLine
   at-ending z calls p ended e =
       let five = fivePlaces (state z calls) in
@@ -72,7 +73,7 @@ module _ (t h l n : ℕ) (lines : List Line) (steps free links hands handovers c
       let in-handovers : handovers ≡ five .handovers = cc in
       let in-carried : carried ≡ five .carried = cc in
       record {
-        given-up = rw (retired, gone, in-handovers, in-carried) (p .given-up);
+        as-many = rw (retired, gone, in-handovers, in-carried) (p .as-many);
         bound = rw (retired, gone, threads, slots) (p .bound);
         five-places = rw (in-free, in-links, in-hands, in-handovers, in-carried, objects) (p .five-places);
       }
