@@ -5,7 +5,6 @@ pub mod Sentence
 pub mod Ends
 pub mod Told
 pub mod Lent
-pub mod Claims
 pub mod Lemmas
 pub mod Promise
 pub mod Worked
