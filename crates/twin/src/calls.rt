@@ -180,6 +180,8 @@ impl Twin {
             place::put(&mut self.place, left, place::carried(t));
         } else if p < 32 {
             self.hazard[p] = 0;
+        }
+        if p < 32 {
             self.mark[p] = false;
         }
         if t < 8 {

@@ -103,7 +103,6 @@ impl Twin {
         if early {
             if p < 32 {
                 self.hazard[p] = 0;
-                self.mark[p] = false;
             }
         }
         let from = if early {
