@@ -82,6 +82,7 @@ impl Sides {
     }
 }
 
+// A key is the size × 4 + the side. A count is that of the others' limits, 2 × 2 × 2.
 pub fn all(differences: usize) -> Seen {
     let mut sum = seen::none(differences);
     for n in 0..128 {
@@ -96,9 +97,12 @@ pub fn all(differences: usize) -> Seen {
 }
 
 pub fn show(s: Seen) {
-    show::text(b"sizes seen refused, started, started, refused\n");
-    show::row(b"  T 0, 1, 8, 9:", s, 0, 4);
-    show::row(b"  H 0, 1, 4, 5:", s, 4, 8);
-    show::row(b"  L 0, 1, 16, 17:", s, 8, 12);
-    show::row(b"  N 0, 1, 240, 241:", s, 12, 16);
+    let names = [8, 4, 16, 240, 0, 0, 0, 0, 0, 0, 0, 0];
+    show::table(
+        b"sizes T to 8, H to 4, L to 16, N to 240 seen: 0 refused, 1 started, the most started, one more refused",
+        s,
+        names,
+        16,
+        4,
+    );
 }

@@ -1,5 +1,6 @@
 // Two machines and a plain store, run beside each other on many schedules and compared.
 mod both;
+mod case;
 mod change;
 mod dice;
 mod draw;

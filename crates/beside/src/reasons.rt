@@ -170,17 +170,29 @@ fn of_mark_or_none(z: Setting, k: usize, bad: bool) -> State {
     if bad { stage::taken(s, 1) } else { s }
 }
 
-// In two places: `k` is the one × 5 + the other, of free, a link, a hand, a handover, carried. The second is the second of its
-// kind.
+// In two places: free and in a link, a hand, a handover, carried; in a link and each of those; in a hand and a hand, a handover,
+// carried; in a handover and a handover, carried; carried twice. The second is the second of its kind.
 fn of_two(z: Setting, k: usize, bad: bool) -> State {
+    let one = match k {
+        0 | 1 | 2 | 3 => 1,
+        4 | 5 | 6 | 7 => 2,
+        8 | 9 | 10 => 3,
+        11 | 12 => 4,
+        _ => 5,
+    };
+    let other = match k {
+        0 | 4 => 2,
+        1 | 5 | 8 => 3,
+        2 | 6 | 9 | 11 => 4,
+        _ => 5,
+    };
     let fresh = stage::fresh(z);
-    let one = k / 5 % 5 + 1;
     let s = if one == 1 {
         fresh
     } else {
         put(stage::taken(fresh, 1), one, 0, 1)
     };
-    if bad { put(s, k % 5 + 1, 1, 1) } else { s }
+    if bad { put(s, other, 1, 1) } else { s }
 }
 
 // "The blank state, all sizes and entries 0, idle and unmarked, is sound too."
@@ -194,7 +206,7 @@ fn blank() -> Setting {
     }
 }
 
-// The clauses one after the other.
+// The clauses, one after the other, in lines of eight reasons.
 fn state(z: Setting, reason: usize, bad: bool) -> State {
     if reason < 8 {
         return of_sizes(z, reason, bad);
@@ -211,25 +223,20 @@ fn state(z: Setting, reason: usize, bad: bool) -> State {
     if reason < 36 {
         return of_moved(z, reason - 32, bad);
     }
-    if reason < 38 {
+    if reason < 40 {
         return of_mark_or_none(z, reason - 36, bad);
     }
-    if reason < 63 {
-        return of_two(z, reason - 38, bad);
+    if reason < 56 {
+        return of_two(z, reason - 40, bad);
     }
-    of_beyond(blank(), reason - 63, bad)
+    of_beyond(blank(), reason - 56, bad)
 }
 
-// Each two places once, never free twice; and the blank state in one setting.
+// The fifth line has six reasons and the seventh too. The blank state is there once.
 fn is_case(reason: usize, setting: usize) -> bool {
-    if reason < 38 {
-        return true;
-    }
-    if reason < 63 {
-        let k = reason - 38;
-        return (k / 5 <= k % 5) & (k != 0);
-    }
-    setting == 0
+    let fifth = (38 <= reason) & (reason < 40);
+    let seventh = (54 <= reason) & (reason < 56);
+    !fifth & !seventh & ((reason < 56) | (setting == 0))
 }
 
 // Both checks, all seven calls and the count.
@@ -242,14 +249,15 @@ fn shown(s: State, z: Setting, bad: bool) -> bool {
     good
 }
 
-// A reason has two keys, the first for the unsound states and the second for their neighbours.
+// A reason has two keys, the first for the unsound states and the second for their neighbours. A count is that of the settings.
 pub fn all(differences: usize) -> Seen {
     let mut sum = seen::none(differences);
-    for n in 0..3408 {
+    for n in 0..3072 {
+        let reason = n / 48;
         let bad = n / 24 % 2 == 0;
         let z = stage::chosen(n % 24);
-        if is_case(n / 48, n % 24) {
-            sum = sum.count(n / 24, shown(state(z, n / 48, bad), z, bad));
+        if is_case(reason, n % 24) {
+            sum = sum.count(n / 24, shown(state(z, reason, bad), z, bad));
         }
     }
     sum
@@ -257,60 +265,22 @@ pub fn all(differences: usize) -> Seen {
 
 pub fn show(s: Seen) {
     show::text(
-        b"states seen that are unsound for one reason, and beside them their sound neighbours\n",
+        b"states seen that are unsound for one reason, each before its sound neighbours
+  1 T below, above, H below, above, L below, above, N below, above
+  2 above N in a link, a hand, a handover, a hazard; Loaded's slot, link, object; Published's slot
+  3 Published's link; Draining's slot; Look's object above N, object 0, position; Swap's object above N, object 0, position
+  4 beyond the sizes a link, a hand, a phase, a hazard, a mark, a handover, a free mark, a tag
+  5 an object beyond the sizes in a link, a hand, a handover, carried; a mark on 0; an object nowhere
+  6 an object free and in a link, a hand, a handover, carried; in a link and a link, a hand, a handover, carried
+  7 in a hand and a hand, a handover, carried; in a handover and a handover, carried; carried twice
+",
     );
-    show::row(b"  T below, above, H below, above:", s, 0, 8);
-    show::row(b"  L below, above, N below, above:", s, 8, 16);
-    show::row(
-        b"  above N in a link, a hand, a handover, a hazard:",
+    let names = [1, 2, 3, 4, 5, 6, 7, 8, 0, 0, 0, 0];
+    show::table(
+        b"  8 blank but for a link, a hand, a phase, a hazard, a mark, a handover, a free mark, a tag",
         s,
+        names,
+        128,
         16,
-        24,
-    );
-    show::row(b"  Loaded's slot, link, object:", s, 24, 30);
-    show::row(b"  Published's slot, link, Draining's slot:", s, 30, 36);
-    show::row(b"  Look's object above N, 0, its position:", s, 36, 42);
-    show::row(b"  Swap's object above N, 0, its position:", s, 42, 48);
-    show::row(
-        b"  beyond the sizes a link, a hand, a phase, a hazard:",
-        s,
-        48,
-        56,
-    );
-    show::row(
-        b"  beyond the sizes a mark, a handover, a free mark, a tag:",
-        s,
-        56,
-        64,
-    );
-    show::row(
-        b"  an object beyond in a link, a hand, a handover, carried:",
-        s,
-        64,
-        72,
-    );
-    show::row(b"  a mark on 0:", s, 72, 74);
-    show::row(b"  an object nowhere:", s, 74, 76);
-    show::row(
-        b"  free and free, in a link, a hand, a handover, carried:",
-        s,
-        76,
-        86,
-    );
-    show::row(b"  in a link and the same five:", s, 86, 96);
-    show::row(b"  in a hand and the same five:", s, 96, 106);
-    show::row(b"  in a handover and the same five:", s, 106, 116);
-    show::row(b"  carried and the same five:", s, 116, 126);
-    show::row(
-        b"  blank but for a link, a hand, a phase, a hazard:",
-        s,
-        126,
-        134,
-    );
-    show::row(
-        b"  blank but for a mark, a handover, a free mark, a tag:",
-        s,
-        134,
-        142,
     );
 }

@@ -20,20 +20,18 @@ fn line(s: &[u8], n: usize) {
     text(b"\n");
 }
 
-// A number and how often it was seen.
-pub fn counted(n: usize, times: usize) {
-    text(b" ");
-    number(n);
-    text(b":");
-    number(times);
-}
-
-// How often what is due was seen, by the keys from `first` up to `end`; a dash where there is no case.
-pub fn row(label: &[u8], s: Seen, first: usize, end: usize) {
-    text(label);
+// How often what is due was seen, by the keys below `end`, so many to a line; a dash where there is no case.
+pub fn table(header: &[u8], s: Seen, names: [u8; 12], end: usize, width: usize) {
+    text(header);
     for key in 0..160 {
-        if first <= key {
-            if key < end {
+        if key < end {
+            if 0 < width {
+                let row = key / width;
+                if key % width == 0 && row < 12 {
+                    text(b"\n  ");
+                    number(plain::wide(names[row]));
+                    text(b":");
+                }
                 text(b" ");
                 if s.tried[key] == 0 {
                     text(b"-");

@@ -3,17 +3,18 @@ use borrow.Author.Needs.{needs}
 use Prim.Native.Nat.{_≤_, _-_}
 use Rattle.beside.proofs.fields.all.Statement.{statement}
 use Rattle.beside.proofs.fields.all.Tie as tie
-use Rattle.beside.proofs.fields.Step.key.Reads as key-reads
-use Rattle.beside.proofs.fields.Step.shown.Reads as shown-reads
+use Rattle.beside.proofs.case.Case.shown.Reads as shown-reads
+use Rattle.beside.proofs.fields.fits.Reads as fits-reads
+use Rattle.beside.proofs.fields.line.Reads as line-reads
 use Rattle.beside.proofs.seen.Seen.count.Reads as count-reads
 use Rattle.beside.proofs.seen.none.Reads as none-reads
 use Rattle.beside.proofs.stage.chosen.Reads as chosen-reads
 
 abbrev Inv-loop : tie.InvT-loop
-Inv-loop differences sum₀ n₀ sum n = n ≤ 2688
+Inv-loop differences sum₀ n₀ sum n = n ≤ 8064
 
 abbrev μ-loop : tie.MeasureT-loop
-μ-loop differences sum₀ n₀ sum n = 2688 - n
+μ-loop differences sum₀ n₀ sum n = 8064 - n
 
 none-requires : tie.Need-none-requires Inv-loop μ-loop
 none-requires c κs = search needs
@@ -21,11 +22,17 @@ none-requires c κs = search needs
 loop-holds : tie.Need-loop-holds Inv-loop μ-loop
 loop-holds c = search needs
 
-add-chosen : tie.Need-add-chosen Inv-loop μ-loop
-add-chosen c = search needs
+add-op : tie.Need-add-op Inv-loop μ-loop
+add-op c = search needs
 
-key-requires : tie.Need-key-requires Inv-loop μ-loop
-key-requires c κs = search needs
+line-requires : tie.Need-line-requires Inv-loop μ-loop
+line-requires c κs = search needs
+
+line-requires-2 : tie.Need-line-requires-2 Inv-loop μ-loop
+line-requires-2 c κs = search needs
+
+fits-requires : tie.Need-fits-requires Inv-loop μ-loop
+fits-requires c κs = search needs
 
 chosen-requires : tie.Need-chosen-requires Inv-loop μ-loop
 chosen-requires c κs = search needs
@@ -56,8 +63,10 @@ all-spec =
     μ-loop
     none-requires
     loop-holds
-    add-chosen
-    key-requires
+    add-op
+    line-requires
+    line-requires-2
+    fits-requires
     chosen-requires
     shown-requires
     count-requires

@@ -3,9 +3,9 @@ use borrow.Author.Needs.{needs}
 use Prim.Native.Nat.{_≤_, _-_}
 use Rattle.beside.proofs.order.all.Statement.{statement}
 use Rattle.beside.proofs.order.all.Tie as tie
-use Rattle.beside.proofs.order.Pair.meets.Reads as meets-reads
-use Rattle.beside.proofs.order.Pair.shown.Reads as shown-reads
+use Rattle.beside.proofs.case.Case.shown.Reads as shown-reads
 use Rattle.beside.proofs.order.line.Reads as line-reads
+use Rattle.beside.proofs.order.meets.Reads as meets-reads
 use Rattle.beside.proofs.seen.Seen.count.Reads as count-reads
 use Rattle.beside.proofs.seen.none.Reads as none-reads
 use Rattle.beside.proofs.stage.chosen.Reads as chosen-reads

@@ -11,10 +11,10 @@ use Rattle.beside.proofs.seen.none.Reads as none-reads
 use Rattle.beside.proofs.stage.chosen.Reads as chosen-reads
 
 abbrev Inv-loop : tie.InvT-loop
-Inv-loop differences sum₀ n₀ sum n = n ≤ 3408
+Inv-loop differences sum₀ n₀ sum n = n ≤ 3072
 
 abbrev μ-loop : tie.MeasureT-loop
-μ-loop differences sum₀ n₀ sum n = 3408 - n
+μ-loop differences sum₀ n₀ sum n = 3072 - n
 
 none-requires : tie.Need-none-requires Inv-loop μ-loop
 none-requires c κs = search needs
