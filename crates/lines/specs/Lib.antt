@@ -1,5 +1,4 @@
--- What a reader has to believe: a number's digits, a line's bytes, a run's lines, a written buffer. `Worked` and `Stops` compute document 01's run
--- and the ways in which a run stops.
+-- What a reader has to believe: a number's digits, a line's bytes, a run's lines, a written buffer.
 pub mod Decimal
 pub mod Line
 pub mod Run
@@ -7,6 +6,3 @@ pub mod Written
 pub mod Lent
 pub mod Lemmas
 pub mod Promise
-pub mod Computing
-pub mod Worked
-pub mod Stops

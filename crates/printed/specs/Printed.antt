@@ -6,8 +6,9 @@ use Rattle.entries.specs.declared.Sizes.{Sizes}
 use Rattle.machine.specs.declared.Call.{Call}
 use Rattle.machine.specs.Answers.{numbersOf}
 use Rattle.machine.specs.Count.{fivePlaces}
-use Rattle.promise.specs.History.{Event}
-use Rattle.promise.specs.Run.{events, state}
+use Rattle.machine.specs.Step.{stepOf}
+use Rattle.promise.specs.History.{Machine, Event}
+use Rattle.promise.specs.Run.{eventsOf, endOf, state}
 use Rattle.lines.specs.Line.{Line, numbers, end, stop}
 use Rattle.sentences.specs.Told as told
 use Rattle.printed.specs.Input.{Ending, ended, stopped, Input, run, noRun}
@@ -23,12 +24,13 @@ unfoldable pub eventLines : ℕ → List Event → List Line
 eventLines number [] = []
 eventLines number (e ∷ later) = eventLine number e ∷ eventLines (number + 1) later
 
-module _ (z : Sizes) (calls : List Call) where
+-- of the run of whatever machine takes the steps
+module _ (machine : Machine) (z : Sizes) (calls : List Call) where
   -- "Last line: `end`, steps, then objects free, in links, in hands, in handovers, carried." "`stop`, the count of good records before, and
   -- the number": those are the sizes record and the steps.
   unfoldable pub endingLine : Ending → Line
   endingLine ended =
-      let p = fivePlaces (state z calls) in
+      let p = fivePlaces (endOf machine z calls) in
       end (length calls ∷ p .free ∷ p .links ∷ p .hands ∷ p .handovers ∷ p .carried ∷ [])
   endingLine (stopped number) = stop ((length calls + 1) ∷ number ∷ [])
 
@@ -36,12 +38,12 @@ module _ (z : Sizes) (calls : List Call) where
   unfoldable pub linesOfRun : Ending → List Line
   linesOfRun ending =
       numbers (z .threads ∷ z .slots ∷ z .links ∷ z .objects ∷ []) ∷
-      eventLines 1 (events z calls) ++
+      eventLines 1 (eventsOf machine z calls) ++
       endingLine ending ∷ []
 
 -- where there is no run, a `stop` line alone
 unfoldable pub linesOfInput : Input → List Line
-linesOfInput (run z calls ending) = linesOfRun z calls ending
+linesOfInput (run z calls ending) = linesOfRun stepOf z calls ending
 linesOfInput (noRun number) = stop (0 ∷ number ∷ []) ∷ []
 
 -- the sentences are of the run's last state, and where it stops there are none

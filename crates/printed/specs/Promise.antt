@@ -1,8 +1,10 @@
 -- Each printed line is an event of the run of the calls that the input says, so what demand 3 says is said of what is printed.
 use Prim.Native.Nat.{ℕ}
 use mathlib.Core.Path.{_≡_}
+use mathlib.Core.Bool.{true}
 use mathlib.Core.List.{List, [], _∷_, _++_}
 use Rattle.entries.specs.declared.Sizes.{Sizes}
+use Rattle.entries.specs.Sizes.{inRange}
 use Rattle.machine.specs.declared.Call.{Call}
 use Rattle.machine.specs.Step.{stepOf}
 use Rattle.promise.specs.Promise.{Promised, promise}
@@ -26,10 +28,15 @@ lines-are-events = lines.lines-are-events
 pub sentences-of-state : (input : List ℕ) → told.textOf input ≡ sentencesOfInput (inputOf input)
 sentences-of-state = sentences.sentences-of-state
 
+-- The sizes of a run that an input says are in range.
+pub sizes-in-range :
+    (input : List ℕ) (z : Sizes) (calls : List Call) (ending : Ending) → inputOf input ≡ run z calls ending → inRange z ≡ true
+sizes-in-range = ranged.in-range
+
 -- All of demand 3 holds of the events and of the state that are printed.
 pub promised :
     (input : List ℕ) (z : Sizes) (calls : List Call) (ending : Ending) → inputOf input ≡ run z calls ending → Promised stepOf z calls
-promised input z calls ending e = promise z (ranged.in-range input z calls ending e) calls
+promised input z calls ending e = promise z (sizes-in-range input z calls ending e) calls
 
 -- And whoever counts in the printed lines alone finds demand 3's counts: in any output that starts with T H L N and comes to `end`.
 pub counts-add-up :

@@ -4,5 +4,4 @@ pub mod Names
 pub mod Fields
 pub mod Lines
 pub mod Packing
-pub mod Worked
 pub mod Promise

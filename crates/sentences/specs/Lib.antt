@@ -1,5 +1,5 @@
 -- What a reader has to believe: words with numbers filled in, an object's sentence, how a run ends, the text, a written buffer. `Promise` has what
--- is promised of them, `Worked` one text computed.
+-- is promised of them.
 pub mod Words
 pub mod Sentence
 pub mod Ends
@@ -7,4 +7,3 @@ pub mod Told
 pub mod Lent
 pub mod Lemmas
 pub mod Promise
-pub mod Worked

@@ -53,11 +53,11 @@ module _ (t h l n : ℕ) (lines : List Line) (steps free links hands handovers c
   abbrev whole : List Line
   whole = numbers (t ∷ h ∷ l ∷ n ∷ []) ∷ lines ++ last ∷ []
 
-  at-ending : (z : Sizes) (calls : List Call) → Promised stepOf z calls → (ending : Ending) → linesOfRun z calls ending ≡ whole → AddsUp t h n lines free links hands handovers carried
+  at-ending : (z : Sizes) (calls : List Call) → Promised stepOf z calls → (ending : Ending) → linesOfRun stepOf z calls ending ≡ whole → AddsUp t h n lines free links hands handovers carried
   unfolding linesOfRun endingLine
   at-ending z calls p ended e =
       let five = fivePlaces (state z calls) in
-      let told = endingLine z calls ended in
+      let told = endingLine stepOf z calls ended in
       let tails : eventLines 1 (events z calls) ++ told ∷ [] ≡ lines ++ last ∷ [] = cc in
       let both = same-last (eventLines 1 (events z calls)) lines told last tails in
       let same : eventLines 1 (events z calls) ≡ lines = both .0 in
@@ -78,7 +78,7 @@ module _ (t h l n : ℕ) (lines : List Line) (steps free links hands handovers c
         five-places = rw (in-free, in-links, in-hands, in-handovers, in-carried, objects) (p .five-places);
       }
   at-ending z calls p (stopped number) e =
-      let told = endingLine z calls (stopped number) in
+      let told = endingLine stepOf z calls (stopped number) in
       let tails : eventLines 1 (events z calls) ++ told ∷ [] ≡ lines ++ last ∷ [] = cc in
       let both = same-last (eventLines 1 (events z calls)) lines told last tails in
       let lasts : told ≡ last = both .1 in

@@ -76,14 +76,14 @@ from (suc most) steps all s bytes =
     (readOf bytes) refl
 
 -- the last line counts the places of a sound state, and any state of a run is one
-last-line : (z : Sizes) → inRange z ≡ true → (calls : List Call) (found : Read) → lastLine (length calls) (state z calls) found ≡ endingLine z calls (endingAt found)
+last-line : (z : Sizes) → inRange z ≡ true → (calls : List Call) (found : Read) → lastLine (length calls) (state z calls) found ≡ endingLine stepOf z calls (endingAt found)
 unfolding lastLine endLine stopLine endingLine endingAt countOf
 last-line z good calls (read.Sizes r) = refl
 last-line z good calls (read.Step r) = refl
 last-line z good calls read.End = rw (from-sound (state z calls) (always-sound z good calls))
 last-line z good calls (read.Refused number) = refl
 
-run-lines : (r : SizesRecord) → inRange (sizesOf r) ≡ true → (rest : List ℕ) → linesFrom 6001 0 (freshOf (sizesOf r)) rest ≡ eventLines 1 (events (sizesOf r) (callsUpTo 6000 rest)) ++ endingLine (sizesOf r) (callsUpTo 6000 rest) (endingAt (readOf (after (length (callsUpTo 6000 rest)) rest))) ∷ []
+run-lines : (r : SizesRecord) → inRange (sizesOf r) ≡ true → (rest : List ℕ) → linesFrom 6001 0 (freshOf (sizesOf r)) rest ≡ eventLines 1 (events (sizesOf r) (callsUpTo 6000 rest)) ++ endingLine stepOf (sizesOf r) (callsUpTo 6000 rest) (endingAt (readOf (after (length (callsUpTo 6000 rest)) rest))) ∷ []
 run-lines r good rest =
     let calls = callsUpTo 6000 rest in
     let found = readOf (after (length calls) rest) in

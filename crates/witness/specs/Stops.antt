@@ -1,10 +1,11 @@
 -- Every way in which a short input stops a run, and a refused step that does not, computed as one table.
 use Prim.Native.Nat.{ℕ}
-use mathlib.Core.Path.{_≡_, refl}
+use mathlib.Core.Path.{_≡_, refl, subst⁻¹, fun-ext}
 use mathlib.Core.List.{List, [], _∷_, _++_, map}
 use Rattle.lines.specs.Line.{Line, numbers, end, stop}
 use Rattle.lines.specs.Run.{linesOf}
-use Rattle.lines.specs.Computing.{computing}
+use Rattle.printed.specs.Input.{inputOf}
+use Rattle.witness.specs.Printing.{quickLines, lines-quick, printing}
 
 pub record Row : Type 0 where
   pub input : List ℕ
@@ -58,6 +59,9 @@ table =
     gives first ∷ taken ∷ numbers (2 ∷ 0 ∷ 1 ∷ 28 ∷ 0 ∷ 0 ∷ []) ∷ end (2 ∷ 1 ∷ 0 ∷ 1 ∷ 0 ∷ 0 ∷ []) ∷ []) ∷
     []
 
+quickly : map (λ row. quickLines (inputOf (row .input))) table ≡ map (λ row. row .lines) table
+unfolding printing table
+quickly = refl
+
 pub stops : map (λ row. linesOf (row .input)) table ≡ map (λ row. row .lines) table
-unfolding computing table
-stops = refl
+stops = subst⁻¹ (λ (lines : List ℕ → List Line). map (λ row. lines (row .input)) table ≡ map (λ row. row .lines) table) (fun-ext lines-quick) quickly

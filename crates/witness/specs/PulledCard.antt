@@ -1,15 +1,16 @@
 -- The pulled card (`schedules/pulled-card.txt`) up to the moment at which the till is done with the old record and the payment task still reads
 -- it, computed.
 use Prim.Native.Nat.{ℕ}
-use mathlib.Core.Path.{_≡_, refl}
+use mathlib.Core.Path.{_≡_, refl, _∙_}
 use mathlib.Core.List.{List, [], _∷_, _++_}
-use Rattle.lines.specs.Computing.{computing}
 use Rattle.basics.specs.First as first
+use Rattle.lines.specs.Decimal.{digits, decimal}
 use Rattle.reasons.specs.Reasons as reasons
 use Rattle.sentences.specs.Words.{ascii, filled}
 use Rattle.sentences.specs.Sentence.{threadOf, slotOf, guardWords, reasonWords, hazardWords, lineOf}
-use Rattle.sentences.specs.Ends.{isEnd, lastOf, endAt, endFrom, endStarted, endSized, endFirst, endOf}
-use Rattle.sentences.specs.Told.{linesFrom, linesOf, textAt, textOf}
+use Rattle.sentences.specs.Told.{linesFrom, linesOf, textOf}
+use Rattle.printed.specs.Input.{inputOf}
+use Rattle.witness.specs.Printing.{quickSentences, sentences-quick, printing}
 
 -- sizes 2 1 1 2, then the first 16 steps as records
 unfoldable pub schedule : List ℕ
@@ -39,6 +40,9 @@ said =
     ascii "object 1 was left in the handover of position 1 (thread 1, slot 0), whose hazard is this object, protected; first hazard: position 1 (thread 1, slot 0)\n" ++
     ascii "object 2 is in link 0; no hazard\n"
 
-pub worked : textOf schedule ≡ said
-unfolding computing first.firstFrom reasons.guardOf reasons.linkWith reasons.handWith reasons.carrierOf reasons.handoverWith reasons.reasonOf reasons.hazardAt reasons.hazardOf reasons.refusals reasons.refusalOf reasons.whyOf ascii filled threadOf slotOf guardWords reasonWords hazardWords lineOf isEnd lastOf endAt endFrom endStarted endSized endFirst endOf linesFrom linesOf textAt textOf schedule said
-worked = refl
+quickly : quickSentences (inputOf schedule) ≡ said
+unfolding printing first.firstFrom digits decimal reasons.guardOf reasons.linkWith reasons.handWith reasons.carrierOf reasons.handoverWith reasons.reasonOf reasons.hazardAt reasons.hazardOf reasons.refusals reasons.refusalOf reasons.whyOf ascii filled threadOf slotOf guardWords reasonWords hazardWords lineOf linesFrom linesOf schedule said
+quickly = refl
+
+pub card-told : textOf schedule ≡ said
+card-told = sentences-quick schedule ∙ quickly

@@ -1,10 +1,12 @@
 -- 01's "One run whole", computed: the input's bytes give the lines and the text that are printed there.
 use Prim.Native.Nat.{ℕ}
-use mathlib.Core.Path.{_≡_, refl}
+use mathlib.Core.Path.{_≡_, refl, ap, _∙_}
 use mathlib.Core.List.{List, [], _∷_}
-use Rattle.lines.specs.Line.{Line, numbers, end}
+use Rattle.lines.specs.Decimal.{digits, decimal}
+use Rattle.lines.specs.Line.{Line, numbers, end, joined, bytesOf, text}
 use Rattle.lines.specs.Run.{linesOf, textOf}
-use Rattle.lines.specs.Computing.{computing}
+use Rattle.printed.specs.Input.{inputOf}
+use Rattle.witness.specs.Printing.{quickLines, lines-quick, printing}
 
 -- sizes 2 1 1 2, then the 21 steps as records
 unfoldable pub schedule : List ℕ
@@ -89,10 +91,17 @@ printedText =
     101 ∷ 110 ∷ 100 ∷ 32 ∷ 50 ∷ 49 ∷ 32 ∷ 49 ∷ 32 ∷ 48 ∷ 32 ∷ 49 ∷ 32 ∷ 48 ∷ 32 ∷ 48 ∷ 10 ∷
     []
 
+quickly : quickLines (inputOf schedule) ≡ printed
+unfolding printing schedule printed
+quickly = refl
+
 pub worked-run : linesOf schedule ≡ printed
-unfolding computing schedule printed
-worked-run = refl
+worked-run = lines-quick schedule ∙ quickly
+
+in-bytes : text printed ≡ printedText
+unfolding digits decimal joined bytesOf text printed printedText
+in-bytes = refl
 
 pub worked-text : textOf schedule ≡ printedText
-unfolding computing schedule printedText
-worked-text = refl
+unfolding textOf
+worked-text = ap text worked-run ∙ in-bytes
