@@ -18,10 +18,8 @@ pub struct Setting {
     pub positions: usize,
 }
 
-pub const SETTINGS: usize = 24;
-
-// T from 2 to 7 and H from 1 to 4, so that there is an entry beyond each of them and a second one of each kind. L is T + H and
-// N twice that, so that no two sizes are taken for each other.
+// One of 24 settings: T from 2 to 7 and H from 1 to 4, so that there is an entry beyond each of them and a second one of each
+// kind. L is T + H and N twice that: a size that was taken for another would be wrong in most settings.
 pub fn chosen(k: usize) -> Setting {
     let t = k / 4 % 6 + 2;
     let h = k % 4 + 1;
