@@ -25,13 +25,9 @@ impl Case {
         let op = self.operation;
         let busy = self.has(26) | ((op == 7) & !self.has(27));
         Scene {
-            doing: if busy { self.variant % 5 + 1 } else { 0 },
+            doing: stage::either(busy, self.variant % 5 + 1, 0),
             full: self.has(28) | ((op == 5) & !self.has(29)),
-            slot: if self.has(31) {
-                self.variant % 2 + 1
-            } else {
-                0
-            },
+            slot: stage::either(self.has(31), self.variant % 2 + 1, 0),
             none_free: self.has(30),
             unsound: self.has(19),
         }
@@ -43,24 +39,25 @@ impl Case {
         let mut o = stage::call(z, self.operation);
         let k = self.variant;
         let far = k % 2 == 1;
-        let most = if self.operation == 3 { 254 } else { 255 };
+        let most = stage::either(self.operation == 3, 254, 255);
+        let small = stage::either(far, 128, 1);
         if self.has(21) {
             o.thread = z.threads;
         }
         if self.has(23) {
             if k < 2 {
-                o.slot = if far { 128 } else { 1 };
+                o.slot = small;
             } else if k < 4 {
-                o.link = if far { 128 } else { 1 };
+                o.link = small;
             } else {
-                o.tag = if far { 2147483648 } else { 1 };
+                o.tag = stage::either(far, 2147483648, 1);
             }
         }
         if self.has(24) {
-            o.slot = if far { most } else { z.slots };
+            o.slot = stage::either(far, most, z.slots);
         }
         if self.has(25) {
-            o.link = if far { 255 } else { z.links };
+            o.link = stage::either(far, 255, z.links);
         }
         if self.has(0) & far {
             o.slot = 255;

@@ -62,7 +62,7 @@ pub fn all(differences: usize) -> Seen {
             due: line(key / 12),
             later: line(key % 12),
             operation: op,
-            variant: if op == 1 { 0 } else { 4 },
+            variant: stage::either(op == 1, 0, 4),
         };
         if key / 12 < key % 12 {
             if meets(pair) {

@@ -35,8 +35,8 @@ fn with_size(mut z: Setting, size: usize, n: usize) -> Setting {
 fn of_sizes(z: Setting, k: usize, bad: bool) -> State {
     let size = k / 2;
     let above = k % 2 == 1;
-    let inside = limits::limit(size, if above { 2 } else { 1 });
-    let outside = limits::limit(size, if above { 3 } else { 0 });
+    let inside = limits::limit(size, stage::either(above, 2, 1));
+    let outside = limits::limit(size, stage::either(above, 3, 0));
     let good = stage::fresh(with_size(z, size, inside));
     if !bad {
         return good;
@@ -65,11 +65,7 @@ fn put(s: State, place: usize, at: usize, object: usize) -> State {
 // "all numbers above are in range": what is in a link, a hand, a handover, a hazard.
 fn of_objects(z: Setting, k: usize, bad: bool) -> State {
     let s = stage::fresh(z);
-    let object = if bad {
-        totals::up(z.objects)
-    } else {
-        z.objects
-    };
+    let object = stage::either(bad, totals::up(z.objects), z.objects);
     if k == 3 {
         return stage::slot(s, 0, object, false, 0);
     }
@@ -91,29 +87,12 @@ fn of_phases(z: Setting, k: usize, bad: bool) -> State {
     let far_object = bad & ((k == 2) | (k == 6) | (k == 9));
     let no_object = bad & ((k == 7) | (k == 10));
     let far = bad & ((k == 8) | (k == 11));
-    let slot = if far_slot {
-        z.slots
-    } else {
-        stage::last(z.slots)
-    };
-    let link = if far_link {
-        z.links
-    } else {
-        stage::last(z.links)
-    };
-    let object = if far_object {
-        totals::up(z.objects)
-    } else if no_object {
-        0
-    } else {
-        z.objects
-    };
-    let end = if doing == 4 {
-        z.positions
-    } else {
-        stage::last(z.positions)
-    };
-    let position = if far { totals::up(end) } else { end };
+    let slot = stage::either(far_slot, z.slots, stage::last(z.slots));
+    let link = stage::either(far_link, z.links, stage::last(z.links));
+    let known = stage::either(no_object, 0, z.objects);
+    let object = stage::either(far_object, totals::up(z.objects), known);
+    let end = stage::either(doing == 4, z.positions, stage::last(z.positions));
+    let position = stage::either(far, totals::up(end), end);
     let fresh = stage::fresh(z);
     let s = if doing < 4 {
         fresh
@@ -151,7 +130,7 @@ fn of_moved(z: Setting, k: usize, bad: bool) -> State {
         2 => z.positions,
         _ => z.threads,
     };
-    let at = if bad { size } else { stage::last(size) };
+    let at = stage::either(bad, size, stage::last(size));
     put(stage::taken(stage::fresh(z), 1), k % 4 + 2, at, 1)
 }
 
@@ -162,7 +141,7 @@ fn of_mark_or_none(z: Setting, k: usize, bad: bool) -> State {
         return stage::slot(
             s,
             stage::last(z.positions),
-            if bad { 0 } else { 1 },
+            stage::either(bad, 0, 1),
             true,
             0,
         );

@@ -20,6 +20,21 @@ fn line(s: &[u8], n: usize) {
     text(b"\n");
 }
 
+fn name(n: usize) {
+    text(b"\n  ");
+    number(n);
+    text(b":");
+}
+
+fn cell(tried: usize, seen: usize) {
+    text(b" ");
+    if tried == 0 {
+        text(b"-");
+    } else {
+        number(seen);
+    }
+}
+
 // How often what is due was seen, by the keys below `end`, so many to a line; a dash where there is no case.
 pub fn table(header: &[u8], s: Seen, names: [u8; 12], end: usize, width: usize) {
     text(header);
@@ -27,17 +42,10 @@ pub fn table(header: &[u8], s: Seen, names: [u8; 12], end: usize, width: usize) 
         if key < end {
             if 0 < width {
                 let row = key / width;
-                if key % width == 0 && row < 12 {
-                    text(b"\n  ");
-                    number(plain::wide(names[row]));
-                    text(b":");
+                if key % width == 0 {
+                    name(plain::wide(names[row % 12]));
                 }
-                text(b" ");
-                if s.tried[key] == 0 {
-                    text(b"-");
-                } else {
-                    number(plain::wide32(s.seen[key]));
-                }
+                cell(plain::wide32(s.tried[key]), plain::wide32(s.seen[key]));
             }
         }
     }

@@ -18,10 +18,8 @@ pub struct Setting {
     pub positions: usize,
 }
 
-pub const SETTINGS: usize = 24;
-
-// T from 2 to 7 and H from 1 to 4, so that there is an entry beyond each of them and a second one of each kind. L is T + H and
-// N twice that, so that no two sizes are taken for each other.
+// One of 24 settings: T from 2 to 7 and H from 1 to 4, so that there is an entry beyond each of them and a second one of each
+// kind. L is T + H and N twice that: a size that was taken for another would be wrong in most settings.
 pub fn chosen(k: usize) -> Setting {
     let t = k / 4 % 6 + 2;
     let h = k % 4 + 1;
@@ -36,6 +34,10 @@ pub fn chosen(k: usize) -> Setting {
 
 pub fn last(size: usize) -> usize {
     if size == 0 { 0 } else { size - 1 }
+}
+
+pub fn either(first: bool, a: usize, b: usize) -> usize {
+    if first { a } else { b }
 }
 
 fn sizes(z: Setting) -> Sizes {
@@ -152,13 +154,13 @@ pub struct Scene {
 // 3 is carried or in the first handover. A fourth is free, or not there.
 pub fn built(z: Setting, c: Scene) -> State {
     let mut sized = z;
-    sized.objects = if c.none_free { 3 } else { 4 };
+    sized.objects = either(c.none_free, 3, 4);
     let out = taken(taken(taken(fresh(sized), 1), 2), 3);
-    let linked = link(link(out, last(z.links), 1), 0, if c.full { 0 } else { 2 });
+    let linked = link(link(out, last(z.links), 1), 0, either(c.full, 0, 2));
     let doing = phase(c.doing, last(z.slots), last(z.links), 3, 0);
-    let held = thread(linked, last(z.threads), if c.full { 2 } else { 0 }, doing);
-    let left = slot(held, 0, 0, false, if c.doing < 4 { 3 } else { 0 });
-    let hazard = if c.slot == 2 { 0 } else { 1 };
+    let held = thread(linked, last(z.threads), either(c.full, 2, 0), doing);
+    let left = slot(held, 0, 0, false, either(c.doing < 4, 3, 0));
+    let hazard = either(c.slot == 2, 0, 1);
     let ready = slot(left, last(z.positions), hazard, c.slot == 0, 0);
     if c.unsound { tag(ready, 240) } else { ready }
 }
@@ -168,20 +170,8 @@ pub fn call(z: Setting, operation: usize) -> Order {
     Order {
         thread: last(z.threads),
         operation,
-        slot: if table::uses(operation, table::SLOT) {
-            last(z.slots)
-        } else {
-            0
-        },
-        link: if table::uses(operation, table::LINK) {
-            last(z.links)
-        } else {
-            0
-        },
-        tag: if table::uses(operation, table::TAG) {
-            4294967295
-        } else {
-            0
-        },
+        slot: either(table::uses(operation, table::SLOT), last(z.slots), 0),
+        link: either(table::uses(operation, table::LINK), last(z.links), 0),
+        tag: either(table::uses(operation, table::TAG), 4294967295, 0),
     }
 }

@@ -9,6 +9,7 @@ use Rattle.beside.proofs.order.meets.Reads as meets-reads
 use Rattle.beside.proofs.seen.Seen.count.Reads as count-reads
 use Rattle.beside.proofs.seen.none.Reads as none-reads
 use Rattle.beside.proofs.stage.chosen.Reads as chosen-reads
+use Rattle.beside.proofs.stage.either.Reads as either-reads
 
 abbrev Inv-loop : tie.InvT-loop
 Inv-loop differences sum₀ n₀ sum n = n ≤ 31104
@@ -27,6 +28,9 @@ line-requires c κs = search needs
 
 line-requires-2 : tie.Need-line-requires-2 Inv-loop μ-loop
 line-requires-2 c κs = search needs
+
+either-requires : tie.Need-either-requires Inv-loop μ-loop
+either-requires c κs = search needs
 
 meets-requires : tie.Need-meets-requires Inv-loop μ-loop
 meets-requires c κs = search needs
@@ -62,6 +66,7 @@ all-spec =
     loop-holds
     line-requires
     line-requires-2
+    either-requires
     meets-requires
     chosen-requires
     shown-requires
