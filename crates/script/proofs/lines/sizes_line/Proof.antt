@@ -21,7 +21,7 @@ ended-requires c κs = search needs
 
 returns : tie.Need-returns
 unfolding sizesLine
-returns c = cc
+returns c = rw (← c .before .before .before .before .byte-at .ensures, ← c .before .before .before .byte-at2 .ensures, ← c .before .before .byte-at3 .ensures, ← c .before .byte-at4 .ensures) (c .ended .ensures)
 
 pub sizes-line-spec : {M : Type 1} → statement M
 sizes-line-spec =

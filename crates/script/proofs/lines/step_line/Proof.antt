@@ -24,7 +24,7 @@ ended-requires c κs = search needs
 
 returns : tie.Need-returns
 unfolding stepLine
-returns c = cc
+returns c = rw (← c .before .before .before .before .before .byte-at .ensures, ← c .before .before .before .before .operation-at .ensures, ← c .before .before .before .slot-at .ensures, ← c .before .before .link-at .ensures, ← c .before .tag-at .ensures) (c .ended .ensures)
 
 pub step-line-spec : {M : Type 1} → statement M
 step-line-spec =

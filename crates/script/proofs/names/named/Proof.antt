@@ -1,7 +1,7 @@
 -- `script::names::named` meets its contract: each call says what the definition says of its name and the names after it.
 use borrow.Author.Needs.{needs}
 use Rattle.basics.specs.Ascii.{ascii}
-use Rattle.script.specs.Names.{ifNamed, namedOf}
+use Rattle.script.specs.Names.{namedOf}
 use Rattle.script.proofs.names.named.Statement.{statement}
 use Rattle.script.proofs.names.named.Tie as tie
 
@@ -54,8 +54,10 @@ if-named-requires-8 : tie.Need-if-named-requires-8
 if-named-requires-8 c κs = search needs
 
 returns : tie.Need-returns
-unfolding namedOf ifNamed ascii
-returns c = cc
+unfolding namedOf ascii
+returns c =
+    rw (← c .before .before .before .before .before .before .before .before .before .before .before .before .before .before .if-named .ensures, ← c .before .before .before .before .before .before .before .before .before .before .before .before .if-named2 .ensures, ← c .before .before .before .before .before .before .before .before .before .before .if-named3 .ensures, ← c .before .before .before .before .before .before .before .before .if-named4 .ensures, ← c .before .before .before .before .before .before .if-named5 .ensures, ← c .before .before .before .before .if-named6 .ensures, ← c .before .before .if-named7 .ensures)
+    (c .if-named8 .ensures)
 
 pub named-spec : {M : Type 1} → statement M
 named-spec =

@@ -18,7 +18,7 @@ field-requires c κs = search needs
 
 returns : tie.Need-returns
 unfolding byteAt
-returns c = cc
+returns c = rw (← c .before .before .before .next-word .ensures, ← c .before .before .bytes-of .ensures, ← c .before .byte .ensures) (c .field .ensures)
 
 pub byte-at-spec : {M : Type 1} → statement M
 byte-at-spec =

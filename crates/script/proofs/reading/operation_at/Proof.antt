@@ -18,7 +18,7 @@ field-requires c κs = search needs
 
 returns : tie.Need-returns
 unfolding operationAt
-returns c = cc
+returns c = rw (← c .before .before .before .next-word .ensures, ← c .before .before .bytes-of .ensures, ← c .before .operation-of .ensures) (c .field .ensures)
 
 pub operation-at-spec : {M : Type 1} → statement M
 operation-at-spec =

@@ -18,7 +18,7 @@ field-requires c κs = search needs
 
 returns : tie.Need-returns
 unfolding slotAt
-returns c = cc
+returns c = rw (← c .before .before .before .next-word .ensures, ← c .before .before .bytes-of .ensures, ← c .before .slot-of .ensures) (c .field .ensures)
 
 pub slot-at-spec : {M : Type 1} → statement M
 slot-at-spec =

@@ -18,7 +18,7 @@ tag-field-requires c κs = search needs
 
 returns : tie.Need-returns
 unfolding tagAt
-returns c = cc
+returns c = rw (← c .before .before .before .next-word .ensures, ← c .before .before .bytes-of .ensures, ← c .before .tag-of .ensures) (c .tag-field .ensures)
 
 pub tag-at-spec : {M : Type 1} → statement M
 tag-at-spec =

@@ -12,7 +12,7 @@ past-requires-2 c κs = search needs
 
 returns : tie.Need-returns
 unfolding wordAt
-returns c = cc
+returns c = rw (← c .before .past .ensures, ← c .past2 .ensures)
 
 pub word-at-spec : {M : Type 1} → statement M
 word-at-spec = tie.close (tie.spec past-requires past-requires-2 returns)
