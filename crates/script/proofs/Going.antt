@@ -56,7 +56,6 @@ full-then room full n (line.Bad fault) e = let z : _≡_ {A = ℕ} 0 1 = cc in o
 pub record Going (text out₀ : List ℕ) (at number full : ℕ) (out : List ℕ) : Type 0 where
   pub size : length out ≡ length out₀
   pub within : full ≤ length out
-  pub here : at ≤ length text
   pub numbered : 1 ≤ number
   pub few : number ≤ at + 1
   pub kept : drop full out ≡ drop full out₀
@@ -68,7 +67,6 @@ going-start text out =
     record {
       size = refl;
       within = omega arith;
-      here = omega arith;
       numbered = omega arith;
       few = omega arith;
       kept = refl;
@@ -119,9 +117,9 @@ module _ (text out₀ : List ℕ) (at number full : ℕ) (out : List ℕ) (g : G
       ∙ drop-drop (length added) full out₀
 
   -- on to the next line
-  pub going-on : (n : ℕ) (out′ : List ℕ) → out′ ≡ put full added out → tookOf (length out) full (lineOf text at (eqb full 0)) ≡ Full n → (next : ℕ) → next ≡ nextLine text at → at < next → next ≤ length text → Going text out₀ next (number + 1) n out′
+  pub going-on : (n : ℕ) (out′ : List ℕ) → out′ ≡ put full added out → tookOf (length out) full (lineOf text at (eqb full 0)) ≡ Full n → (next : ℕ) → next ≡ nextLine text at → at < next → Going text out₀ next (number + 1) n out′
   unfolding goOn
-  going-on n out′ e took next next-is later there =
+  going-on n out′ e took next next-is later =
       let sized : length (put full added out) ≡ length out = put-length full added out fits in
       let many = g .few in
       let room = fits in
@@ -131,7 +129,6 @@ module _ (text out₀ : List ℕ) (at number full : ℕ) (out : List ℕ) (g : G
       (record {
         size = omega arith;
         within = omega arith;
-        here = there;
         numbered = omega arith;
         few = omega arith;
         kept = kept-on;

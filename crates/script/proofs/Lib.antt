@@ -1,4 +1,5 @@
 pub mod Runs
+pub mod Parts
 pub mod Digits
 pub mod Same
 pub mod Puts

@@ -2,65 +2,39 @@
 use Prim.Native.Nat.{ℕ}
 use mathlib.Core.List.{List}
 use mathlib.Core.Bool.{Bool, cond}
-use lib.Dec.{eqb, ltb}
+use lib.Dec.{eqb}
 use Rattle.records.specs.declared.SizesRecord.{SizesRecord}
 use Rattle.records.specs.declared.StepRecord.{StepRecord}
 use Rattle.script.specs.declared.Word.{Word}
-use Rattle.script.specs.declared.Why.{Why}
-use Rattle.script.specs.declared.Why.the-variants.{TooMany}
-use Rattle.script.specs.declared.Place.{Place}
 use Rattle.script.specs.declared.Place.the-variants as place
-use Rattle.script.specs.declared.Fault.{Fault}
-use Rattle.script.specs.declared.Number.{Number}
-use Rattle.script.specs.declared.Number.the-variants as number
-use Rattle.script.specs.declared.Byte.{Byte}
-use Rattle.script.specs.declared.Byte.the-variants as byte
+use Rattle.script.specs.declared.Rest.the-variants.{From}
+use Rattle.script.specs.declared.Field.{Field}
+use Rattle.script.specs.declared.Tag.{Tag}
 use Rattle.script.specs.declared.Line.{Line}
-use Rattle.script.specs.declared.Line.the-variants.{Nothing, Sizes, Step, Bad}
-use Rattle.script.specs.Words.{wordAt, wordOf, bytesOf}
-use Rattle.script.specs.Numbers.{byteOf}
-use Rattle.script.specs.Fields.{operationOf, byteOrZero, slotOf, tagOf}
-
--- a line that is wrong
-abbrev pub wrong : Why → Place → Word → Line
-wrong why place word = Bad (record { why = why; place = place; word = word })
-
--- a field's value goes on to the rest of the line; where it has none the line is wrong there
-
-unfoldable pub withByte : Place → Word → Byte → (ℕ → Line) → Line
-withByte place word (byte.Value v) rest = rest v
-withByte place word (byte.Bad why) rest = wrong why place word
-
-unfoldable pub withNumber : Place → Word → Number → (ℕ → Line) → Line
-withNumber place word (number.Value v) rest = rest v
-withNumber place word (number.Bad why) rest = wrong why place word
-
--- a word after the last field is one too many
-unfoldable pub withoutMore : Place → Word → Line → Line
-withoutMore place word line = cond (ltb (word .from) (word .to)) (wrong TooMany place word) line
+use Rattle.script.specs.declared.Line.the-variants.{Nothing, Sizes, Step}
+use Rattle.script.specs.Words.{wordAt}
+use Rattle.script.specs.Reading.{byteAt, operationAt, slotAt, linkAt, tagAt, endedOf}
 
 -- "a line of four sizes"
 unfoldable pub sizesLine : List ℕ → ℕ → Line
 sizesLine text at =
-    let word = wordOf text at in
-    withByte place.Threads (word 0) (byteOf (bytesOf text (word 0)))
-    (λ threads. withByte place.Slots (word 1) (byteOf (bytesOf text (word 1)))
-    (λ slots. withByte place.Links (word 2) (byteOf (bytesOf text (word 2)))
-    (λ links. withByte place.Objects (word 3) (byteOf (bytesOf text (word 3)))
-    (λ objects. withoutMore place.AfterSizes (word 4)
-    (Sizes (record { threads = threads; slots = slots; links = links; objects = objects }))))))
+    let threads = byteAt text (From at) place.Threads in
+    let slots = byteAt text (threads .rest) place.Slots in
+    let links = byteAt text (slots .rest) place.Links in
+    let objects = byteAt text (links .rest) place.Objects in
+    endedOf text (objects .rest) place.AfterSizes
+    (Sizes (record { threads = threads .value; slots = slots .value; links = links .value; objects = objects .value }))
 
 -- "a line a step with thread, operation and, where not 0, slot, link, tag"
 unfoldable pub stepLine : List ℕ → ℕ → Line
 stepLine text at =
-    let word = wordOf text at in
-    withByte place.Thread (word 0) (byteOf (bytesOf text (word 0)))
-    (λ thread. withByte place.Operation (word 1) (operationOf (bytesOf text (word 1)))
-    (λ operation. withByte place.Slot (word 2) (slotOf operation (bytesOf text (word 2)))
-    (λ slot. withByte place.Link (word 3) (byteOrZero (bytesOf text (word 3)))
-    (λ link. withNumber place.Tag (word 4) (tagOf (bytesOf text (word 4)))
-    (λ tag. withoutMore place.AfterStep (word 5)
-    (Step (record { thread = thread; operation = operation; slot = slot; link = link; tag = tag })))))))
+    let thread = byteAt text (From at) place.Thread in
+    let operation = operationAt text (thread .rest) in
+    let slot = slotAt text (operation .rest) (operation .value) in
+    let link = linkAt text (slot .rest) in
+    let tag = tagAt text (link .rest) in
+    endedOf text (tag .rest) place.AfterStep
+    (Step (record { thread = thread .value; operation = operation .value; slot = slot .value; link = link .value; tag = tag .value }))
 
 -- "blank lines and comments allowed"; the first line that says something has the sizes
 unfoldable pub lineOf : List ℕ → ℕ → Bool → Line

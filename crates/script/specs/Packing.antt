@@ -15,13 +15,14 @@ use Rattle.script.specs.declared.Took.{Took}
 use Rattle.script.specs.declared.Took.the-variants.{Full, Bad}
 use Rattle.script.specs.declared.Packed.{Packed}
 use Rattle.script.specs.declared.Packed.the-variants as packed
+use Rattle.script.specs.declared.Run.the-variants as run
 use Rattle.script.specs.Words.{runOf}
 use Rattle.script.specs.Lines.{lineOf}
 
 -- the line after the one from this place on; the text's end is the end of the last
 unfoldable pub nextLine : List ℕ → ℕ → ℕ
 nextLine text at =
-    let end = at + runOf 2 (drop at text) in
+    let end = at + runOf run.Line (drop at text) in
     cond (ltb end (length text)) (end + 1) end
 
 -- a fault of no word

@@ -13,13 +13,11 @@ use Rattle.records.specs.declared.SizesRecord.{SizesRecord}
 use Rattle.records.specs.declared.StepRecord.{StepRecord}
 use Rattle.records.specs.Bytes.{sizesBytes, stepBytes, lowFirst}
 use Rattle.script.specs.declared.Word.{Word}
-use Rattle.script.specs.declared.Why.{Why}
 use Rattle.script.specs.declared.Place.{Place}
 use Rattle.script.specs.declared.Fault.{Fault}
-use Rattle.script.specs.declared.Number.{Number}
-use Rattle.script.specs.declared.Number.the-variants as number
-use Rattle.script.specs.declared.Byte.{Byte}
-use Rattle.script.specs.declared.Byte.the-variants as byte
+use Rattle.script.specs.declared.Rest.{Rest}
+use Rattle.script.specs.declared.Rest.the-variants as rest
+use Rattle.script.specs.declared.Rest.the-variants.{From}
 use Rattle.script.specs.declared.Line.{Line}
 use Rattle.script.specs.declared.Line.the-variants as line
 use Rattle.script.specs.declared.Took.{Took}
@@ -27,7 +25,8 @@ use Rattle.script.specs.declared.Took.the-variants.{Full, Bad}
 use Rattle.script.specs.declared.Packed.{Packed}
 use Rattle.script.specs.declared.Packed.the-variants as packed
 use Rattle.script.specs.Words.{wordAt}
-use Rattle.script.specs.Lines.{withByte, withNumber, withoutMore, sizesLine, stepLine, lineOf}
+use Rattle.script.specs.Reading.{withoutMore, endedOf}
+use Rattle.script.specs.Lines.{sizesLine, stepLine, lineOf}
 use Rattle.script.specs.Packing.{addedBy, tookOf, Outcome, finish, goOn, packFrom, packOf}
 
 -- the bytes of a schedule: a sizes record, and steps after it
@@ -50,42 +49,23 @@ NoSizes (line.Step r) = Unit {0}
 NoSizes (line.Bad fault) = Unit {0}
 
 module _ (P : Line → Type 0) (wrong-is : (fault : Fault) → P (line.Bad fault)) where
-  by-byte : (place : Place) (word : Word) (found : Byte) (rest : ℕ → Line) → ((v : ℕ) → P (rest v)) → P (withByte place word found rest)
-  unfolding withByte
-  by-byte place word (byte.Value v) rest h = h v
-  by-byte place word (byte.Bad why) rest h = wrong-is _
-
-  by-number : (place : Place) (word : Word) (found : Number) (rest : ℕ → Line) → ((v : ℕ) → P (rest v)) → P (withNumber place word found rest)
-  unfolding withNumber
-  by-number place word (number.Value v) rest h = h v
-  by-number place word (number.Bad why) rest h = wrong-is _
-
   by-test : (t : Bool) (yes-line no-line : Line) → P yes-line → P no-line → P (cond t yes-line no-line)
   by-test true a b p q = p
   by-test false a b p q = q
 
-  by-more : (place : Place) (word : Word) (on : Line) → P on → P (withoutMore place word on)
-  unfolding withoutMore
-  by-more place word on h = by-test (ltb (word .from) (word .to)) _ on (wrong-is _) h
+  by-end : (text : List ℕ) (rest : Rest) (place : Place) (said : Line) → P said → P (endedOf text rest place said)
+  unfolding endedOf withoutMore
+  by-end text (From at) place said h =
+      by-test (ltb (wordAt text at .from) (wordAt text at .to)) _ said (wrong-is _) h
+  by-end text (rest.Bad fault) place said h = wrong-is fault
 
 sizes-no-step : (text : List ℕ) (at : ℕ) → NoStep (sizesLine text at)
 unfolding sizesLine NoStep
-sizes-no-step text at =
-    by-byte NoStep (λ f. tt) _ _ _ _
-    (λ a. by-byte NoStep (λ f. tt) _ _ _ _
-    (λ b. by-byte NoStep (λ f. tt) _ _ _ _
-    (λ c. by-byte NoStep (λ f. tt) _ _ _ _
-    (λ d. by-more NoStep (λ f. tt) _ _ _ tt))))
+sizes-no-step text at = by-end NoStep (λ f. tt) text _ _ _ tt
 
 step-no-sizes : (text : List ℕ) (at : ℕ) → NoSizes (stepLine text at)
 unfolding stepLine NoSizes
-step-no-sizes text at =
-    by-byte NoSizes (λ f. tt) _ _ _ _
-    (λ a. by-byte NoSizes (λ f. tt) _ _ _ _
-    (λ b. by-byte NoSizes (λ f. tt) _ _ _ _
-    (λ c. by-byte NoSizes (λ f. tt) _ _ _ _
-    (λ d. by-number NoSizes (λ f. tt) _ _ _ _
-    (λ e. by-more NoSizes (λ f. tt) _ _ _ tt)))))
+step-no-sizes text at = by-end NoSizes (λ f. tt) text _ _ _ tt
 
 first-no-step : (text : List ℕ) (at : ℕ) → NoStep (lineOf text at true)
 unfolding lineOf NoStep

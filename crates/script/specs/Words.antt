@@ -1,36 +1,54 @@
 -- The words of a line.
-use Prim.Native.Nat.{ℕ, zero, suc, _+_, _-_}
+use Prim.Native.Nat.{ℕ, suc, _+_, _-_}
+use Prim.Native.Char.{code}
 use mathlib.Core.List.{List, [], _∷_}
-use mathlib.Core.Bool.{Bool, true, false, not, cond}
+use mathlib.Core.Bool.{Bool, true, false, cond}
 use lib.ListN.{take, drop}
-use lib.Dec.{eqb}
+use lib.Dec.{eqb, ltb}
+use Rattle.script.specs.declared.Kind.{Kind}
+use Rattle.script.specs.declared.Kind.the-variants as kind
+use Rattle.script.specs.declared.Run.{Run}
+use Rattle.script.specs.declared.Run.the-variants as run
 use Rattle.script.specs.declared.Word.{Word}
 
--- what a byte is to a line: 1 a blank (space, tab, carriage return), 2 the line's end, 3 the start of a comment, 0 a part of a word
-unfoldable pub kindOf : ℕ → ℕ
+-- what a byte is to a line: a space, a tab and a carriage return are blanks
+unfoldable pub kindOf : ℕ → Kind
 kindOf b =
-    cond (eqb b 32) 1 (cond (eqb b 9) 1 (cond (eqb b 13) 1 (cond (eqb b 10) 2 (cond (eqb b 35) 3 0))))
+    cond (eqb b (code " ")) kind.Blank
+    (cond (eqb b (code "\t")) kind.Blank
+    (cond (eqb b (code "\r")) kind.Blank
+    (cond (eqb b (code "\n")) kind.LineEnd
+    (cond (eqb b (code "#")) kind.Comment kind.Word))))
 
--- whether a run takes a byte in: run 0 a word, run 1 blanks, run 2 a line up to its end
-unfoldable pub goesOn : ℕ → ℕ → Bool
-goesOn run b = cond (eqb run 2) (not (eqb (kindOf b) 2)) (eqb (kindOf b) run)
+-- whether a run takes in a byte of this kind
+unfoldable pub goesOn : Run → Kind → Bool
+goesOn run.Word kind.Word = true
+goesOn run.Word kind.Blank = false
+goesOn run.Word kind.LineEnd = false
+goesOn run.Word kind.Comment = false
+goesOn run.Blanks kind.Word = false
+goesOn run.Blanks kind.Blank = true
+goesOn run.Blanks kind.LineEnd = false
+goesOn run.Blanks kind.Comment = false
+goesOn run.Line kind.Word = true
+goesOn run.Line kind.Blank = true
+goesOn run.Line kind.LineEnd = false
+goesOn run.Line kind.Comment = true
 
 -- how many bytes from the front on a run has
-unfoldable pub runOf : ℕ → List ℕ → ℕ
+unfoldable pub runOf : Run → List ℕ → ℕ
 runOf run [] = 0
-runOf run (b ∷ bs) = cond (goesOn run b) (suc (runOf run bs)) 0
+runOf run (b ∷ bs) = cond (goesOn run (kindOf b)) (suc (runOf run bs)) 0
 
 -- the first word from a place on, past the blanks; where a comment, the line's end or the text's end comes first it has no bytes
 unfoldable pub wordAt : List ℕ → ℕ → Word
 wordAt text at =
-    let from = at + runOf 1 (drop at text) in
-    record { from = from; to = from + runOf 0 (drop from text) }
-
--- the word of this number in a line, counted from 0
-unfoldable pub wordOf : List ℕ → ℕ → ℕ → Word
-wordOf text at zero = wordAt text at
-wordOf text at (suc n) = wordAt text (wordOf text at n .to)
+    let from = at + runOf run.Blanks (drop at text) in
+    record { from = from; to = from + runOf run.Word (drop from text) }
 
 -- a word's bytes
 unfoldable pub bytesOf : List ℕ → Word → List ℕ
 bytesOf text w = take (w .to - w .from) (drop (w .from) text)
+
+abbrev pub leastOf : ℕ → ℕ → ℕ
+leastOf a b = cond (ltb a b) a b

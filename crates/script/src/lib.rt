@@ -1,15 +1,33 @@
 // A schedule written as text, read into schedule records. The types stand here.
-// `words` finds the words of a line, `numbers` and `names` read one word, `fields` reads a word in its place, `lines` reads a whole
-// line, and `packing` turns a whole text into records, or says which line is wrong and why.
+// `words` finds the words of a line, `numbers` and `names` read one word, `fields` says what a word means in its place, `reading` reads
+// the next field of a line, `lines` a whole line, and `packing` turns a whole text into records, or says which line is wrong and why.
 mod fields;
 mod lines;
 mod names;
 mod numbers;
 pub mod packing;
+mod reading;
 mod words;
 
 use records::SizesRecord;
 use records::StepRecord;
+
+// What a byte is to a line.
+pub(crate) enum Kind {
+    Word,
+    Blank,
+    LineEnd,
+    // the start of one, which goes on to the line's end
+    Comment,
+}
+
+// Bytes that are taken together.
+pub(crate) enum Run {
+    Word,
+    Blanks,
+    // all up to the line's end
+    Line,
+}
 
 // Where a word stands in the text: its bytes are those from `from` up to `to`. Where the line has no more words, it has no bytes.
 pub struct Word {
@@ -71,6 +89,25 @@ pub(crate) enum Number {
 pub(crate) enum Byte {
     Value(u8),
     Bad(Why),
+}
+
+// What is left of a line after some of its fields: the text from a place on; or the fault of the first field that is wrong, and then no
+// later field is read.
+pub(crate) enum Rest {
+    From(usize),
+    Bad(Fault),
+}
+
+// A field of one byte, and what is left of the line after it. The value counts only where nothing is wrong.
+pub(crate) struct Field {
+    pub value: u8,
+    pub rest: Rest,
+}
+
+// The field of 32 bits, and what is left of the line after it.
+pub(crate) struct Tag {
+    pub value: u32,
+    pub rest: Rest,
 }
 
 // What a line says.

@@ -3,6 +3,7 @@ use crate::Fault;
 use crate::Line;
 use crate::Packed;
 use crate::Place;
+use crate::Run;
 use crate::Took;
 use crate::Why;
 use crate::Word;
@@ -35,9 +36,9 @@ fn fault_of(why: Why) -> Fault
 fn next_line(text: &[u8], at: usize) -> usize
     requires { ⌜ at < length (now text) ⌝ }
     ensures place { λ r. ⌜ r ≡ nextLine (now (text .entry)) at ⌝ }
-    ensures within { λ r. ⌜ (at < r) × (r ≤ length (now (text .entry))) ⌝ }
+    ensures later { λ r. ⌜ at < r ⌝ }
 {
-    let end = past(text, at, 2);
+    let end = past(text, at, Run::Line);
     if end < text.len() {
         return end + 1;
     }
@@ -72,7 +73,7 @@ fn put_step(out: &mut [u8], full: usize, step: StepRecord) -> Took
 
 // Reads the line from `at` on, and writes its record, if it says one, after the bytes that are full.
 fn take_line(text: &[u8], at: usize, out: &mut [u8], full: usize) -> Took
-    requires { ⌜ (at ≤ length (now text)) × (full ≤ length (now out)) ⌝ }
+    requires { ⌜ full ≤ length (now out) ⌝ }
     ensures took { λ r. ⌜ r ≡ tookOf (length (now (out .entry))) full (lineOf (now (text .entry)) at (eqb full 0)) ⌝ }
     ensures bytes { λ _. ⌜ now (out .exit) ≡ put full (addedBy (length (now (out .entry))) full (lineOf (now (text .entry)) at (eqb full 0))) (now (out .entry)) ⌝ }
 {

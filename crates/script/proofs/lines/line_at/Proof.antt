@@ -10,7 +10,7 @@ word-at-requires c κs = search needs
 
 returns : tie.Need-returns
 unfolding lineOf
-returns c = simp (← c .before .before .word-at .ensures .0, eq-eqb _ _ (c .if1 .taken))
+returns c = simp (← c .before .before .word-at .ensures, eq-eqb _ _ (c .if1 .taken))
 
 sizes-line-requires : tie.Need-sizes-line-requires
 sizes-line-requires c κs = search needs
@@ -19,7 +19,7 @@ returns-2 : tie.Need-returns-2
 unfolding lineOf
 returns-2 c =
     simp
-    (← c .before .before .before .before .word-at .ensures .0, ne-eqb _ _ (c .before .before .if1 .left), c .before .if2 .taken)
+    (← c .before .before .before .before .word-at .ensures, ne-eqb _ _ (c .before .before .if1 .left), c .before .if2 .taken)
     (c .sizes-line .ensures)
 
 step-line-requires : tie.Need-step-line-requires
@@ -29,7 +29,7 @@ returns-3 : tie.Need-returns-3
 unfolding lineOf
 returns-3 c =
     simp
-    (← c .before .before .before .before .word-at .ensures .0, ne-eqb _ _ (c .before .before .if1 .left), c .before .if2 .left)
+    (← c .before .before .before .before .word-at .ensures, ne-eqb _ _ (c .before .before .if1 .left), c .before .if2 .left)
     (c .step-line .ensures)
 
 pub line-at-spec : {M : Type 1} → statement M

@@ -1,203 +1,39 @@
--- `script::lines::step_line` meets its contract: each return knows the words before it and what they say.
+-- `script::lines::step_line` meets its contract: each field is what the definition says of what is left after the one before.
 use borrow.Author.Needs.{needs}
-use borrow.Author.Tests.{lt-ltb, le-ltb}
-use mathlib.Core.Path.{sym, _∙_}
-use Rattle.script.specs.Words.{wordOf}
-use Rattle.script.specs.Lines.{withByte, withNumber, withoutMore, stepLine}
+use Rattle.script.specs.Lines.{stepLine}
 use Rattle.script.proofs.lines.step_line.Statement.{statement}
 use Rattle.script.proofs.lines.step_line.Tie as tie
 
-word-at-requires : tie.Need-word-at-requires
-word-at-requires c κs = search needs
+byte-at-requires : tie.Need-byte-at-requires
+byte-at-requires c κs = search needs
 
-bytes-of-requires : tie.Need-bytes-of-requires
-bytes-of-requires c κs = search needs
+operation-at-requires : tie.Need-operation-at-requires
+operation-at-requires c κs = search needs
 
-byte-requires : tie.Need-byte-requires
-byte-requires c κs = search needs
+slot-at-requires : tie.Need-slot-at-requires
+slot-at-requires c κs = search needs
 
-enum-known-found1 : tie.Need-enum-known-found1
-enum-known-found1 c = search needs
+link-at-requires : tie.Need-link-at-requires
+link-at-requires c κs = search needs
 
-enum-known-found1-2 : tie.Need-enum-known-found1-2
-enum-known-found1-2 c = search needs
+tag-at-requires : tie.Need-tag-at-requires
+tag-at-requires c κs = search needs
 
-bad-requires : tie.Need-bad-requires
-bad-requires c κs = search needs
+ended-requires : tie.Need-ended-requires
+ended-requires c κs = search needs
 
 returns : tie.Need-returns
-unfolding stepLine wordOf withByte withNumber withoutMore
-returns c =
-    simp (sym (c .before .before .before .before .before .before .word-at .ensures .0), sym (c .before .before .before .before .before .bytes-of .ensures), sym (c .before .before .before .before .byte .ensures) ∙ c .before .before .found12 .given .1, c .bad .ensures)
-
-word-at-requires-2 : tie.Need-word-at-requires-2
-word-at-requires-2 c κs = search needs
-
-bytes-of-requires-2 : tie.Need-bytes-of-requires-2
-bytes-of-requires-2 c κs = search needs
-
-operation-of-requires : tie.Need-operation-of-requires
-operation-of-requires c κs = search needs
-
-enum-known-found2 : tie.Need-enum-known-found2
-enum-known-found2 c = search needs
-
-enum-known-found2-2 : tie.Need-enum-known-found2-2
-enum-known-found2-2 c = search needs
-
-bad-requires-2 : tie.Need-bad-requires-2
-bad-requires-2 c κs = search needs
-
-returns-2 : tie.Need-returns-2
-unfolding stepLine wordOf withByte withNumber withoutMore
-returns-2 c =
-    simp (sym (c .before .before .before .before .before .before .before .before .before .before .before .before .word-at .ensures .0), sym (c .before .before .before .before .before .before .before .before .before .before .before .bytes-of .ensures), sym (c .before .before .before .before .before .before .before .before .before .before .byte .ensures) ∙ c .before .before .before .before .before .before .before .before .found1 .given .1)
-    (simp (sym (c .before .before .before .before .before .before .word-at2 .ensures .0), sym (c .before .before .before .before .before .bytes-of2 .ensures), sym (c .before .before .before .before .operation-of .ensures) ∙ c .before .before .found22 .given .1, c .bad2 .ensures))
-
-word-at-requires-3 : tie.Need-word-at-requires-3
-word-at-requires-3 c κs = search needs
-
-bytes-of-requires-3 : tie.Need-bytes-of-requires-3
-bytes-of-requires-3 c κs = search needs
-
-slot-of-requires : tie.Need-slot-of-requires
-slot-of-requires c κs = search needs
-
-enum-known-found3 : tie.Need-enum-known-found3
-enum-known-found3 c = search needs
-
-enum-known-found3-2 : tie.Need-enum-known-found3-2
-enum-known-found3-2 c = search needs
-
-bad-requires-3 : tie.Need-bad-requires-3
-bad-requires-3 c κs = search needs
-
-returns-3 : tie.Need-returns-3
-unfolding stepLine wordOf withByte withNumber withoutMore
-returns-3 c =
-    simp (sym (c .before .before .before .before .before .before .before .before .before .before .before .before .before .before .before .before .before .before .word-at .ensures .0), sym (c .before .before .before .before .before .before .before .before .before .before .before .before .before .before .before .before .before .bytes-of .ensures), sym (c .before .before .before .before .before .before .before .before .before .before .before .before .before .before .before .before .byte .ensures) ∙ c .before .before .before .before .before .before .before .before .before .before .before .before .before .before .found1 .given .1)
-    (simp (sym (c .before .before .before .before .before .before .before .before .before .before .before .before .word-at2 .ensures .0), sym (c .before .before .before .before .before .before .before .before .before .before .before .bytes-of2 .ensures), sym (c .before .before .before .before .before .before .before .before .before .before .operation-of .ensures) ∙ c .before .before .before .before .before .before .before .before .found2 .given .1)
-    (simp (sym (c .before .before .before .before .before .before .word-at3 .ensures .0), sym (c .before .before .before .before .before .bytes-of3 .ensures), sym (c .before .before .before .before .slot-of .ensures) ∙ c .before .before .found32 .given .1, c .bad3 .ensures)))
-
-word-at-requires-4 : tie.Need-word-at-requires-4
-word-at-requires-4 c κs = search needs
-
-bytes-of-requires-4 : tie.Need-bytes-of-requires-4
-bytes-of-requires-4 c κs = search needs
-
-byte-or-zero-requires : tie.Need-byte-or-zero-requires
-byte-or-zero-requires c κs = search needs
-
-enum-known-found4 : tie.Need-enum-known-found4
-enum-known-found4 c = search needs
-
-enum-known-found4-2 : tie.Need-enum-known-found4-2
-enum-known-found4-2 c = search needs
-
-bad-requires-4 : tie.Need-bad-requires-4
-bad-requires-4 c κs = search needs
-
-returns-4 : tie.Need-returns-4
-unfolding stepLine wordOf withByte withNumber withoutMore
-returns-4 c =
-    simp (sym (c .before .before .before .before .before .before .before .before .before .before .before .before .before .before .before .before .before .before .before .before .before .before .before .before .word-at .ensures .0), sym (c .before .before .before .before .before .before .before .before .before .before .before .before .before .before .before .before .before .before .before .before .before .before .before .bytes-of .ensures), sym (c .before .before .before .before .before .before .before .before .before .before .before .before .before .before .before .before .before .before .before .before .before .before .byte .ensures) ∙ c .before .before .before .before .before .before .before .before .before .before .before .before .before .before .before .before .before .before .before .before .found1 .given .1)
-    (simp (sym (c .before .before .before .before .before .before .before .before .before .before .before .before .before .before .before .before .before .before .word-at2 .ensures .0), sym (c .before .before .before .before .before .before .before .before .before .before .before .before .before .before .before .before .before .bytes-of2 .ensures), sym (c .before .before .before .before .before .before .before .before .before .before .before .before .before .before .before .before .operation-of .ensures) ∙ c .before .before .before .before .before .before .before .before .before .before .before .before .before .before .found2 .given .1)
-    (simp (sym (c .before .before .before .before .before .before .before .before .before .before .before .before .word-at3 .ensures .0), sym (c .before .before .before .before .before .before .before .before .before .before .before .bytes-of3 .ensures), sym (c .before .before .before .before .before .before .before .before .before .before .slot-of .ensures) ∙ c .before .before .before .before .before .before .before .before .found3 .given .1)
-    (simp (sym (c .before .before .before .before .before .before .word-at4 .ensures .0), sym (c .before .before .before .before .before .bytes-of4 .ensures), sym (c .before .before .before .before .byte-or-zero .ensures) ∙ c .before .before .found42 .given .1, c .bad4 .ensures))))
-
-word-at-requires-5 : tie.Need-word-at-requires-5
-word-at-requires-5 c κs = search needs
-
-bytes-of-requires-5 : tie.Need-bytes-of-requires-5
-bytes-of-requires-5 c κs = search needs
-
-tag-of-requires : tie.Need-tag-of-requires
-tag-of-requires c κs = search needs
-
-enum-known-found5 : tie.Need-enum-known-found5
-enum-known-found5 c = search needs
-
-enum-known-found5-2 : tie.Need-enum-known-found5-2
-enum-known-found5-2 c = search needs
-
-bad-requires-5 : tie.Need-bad-requires-5
-bad-requires-5 c κs = search needs
-
-returns-5 : tie.Need-returns-5
-unfolding stepLine wordOf withByte withNumber withoutMore
-returns-5 c =
-    simp (sym (c .before .before .before .before .before .before .before .before .before .before .before .before .before .before .before .before .before .before .before .before .before .before .before .before .before .before .before .before .before .before .word-at .ensures .0), sym (c .before .before .before .before .before .before .before .before .before .before .before .before .before .before .before .before .before .before .before .before .before .before .before .before .before .before .before .before .before .bytes-of .ensures), sym (c .before .before .before .before .before .before .before .before .before .before .before .before .before .before .before .before .before .before .before .before .before .before .before .before .before .before .before .before .byte .ensures) ∙ c .before .before .before .before .before .before .before .before .before .before .before .before .before .before .before .before .before .before .before .before .before .before .before .before .before .before .found1 .given .1)
-    (simp (sym (c .before .before .before .before .before .before .before .before .before .before .before .before .before .before .before .before .before .before .before .before .before .before .before .before .word-at2 .ensures .0), sym (c .before .before .before .before .before .before .before .before .before .before .before .before .before .before .before .before .before .before .before .before .before .before .before .bytes-of2 .ensures), sym (c .before .before .before .before .before .before .before .before .before .before .before .before .before .before .before .before .before .before .before .before .before .before .operation-of .ensures) ∙ c .before .before .before .before .before .before .before .before .before .before .before .before .before .before .before .before .before .before .before .before .found2 .given .1)
-    (simp (sym (c .before .before .before .before .before .before .before .before .before .before .before .before .before .before .before .before .before .before .word-at3 .ensures .0), sym (c .before .before .before .before .before .before .before .before .before .before .before .before .before .before .before .before .before .bytes-of3 .ensures), sym (c .before .before .before .before .before .before .before .before .before .before .before .before .before .before .before .before .slot-of .ensures) ∙ c .before .before .before .before .before .before .before .before .before .before .before .before .before .before .found3 .given .1)
-    (simp (sym (c .before .before .before .before .before .before .before .before .before .before .before .before .word-at4 .ensures .0), sym (c .before .before .before .before .before .before .before .before .before .before .before .bytes-of4 .ensures), sym (c .before .before .before .before .before .before .before .before .before .before .byte-or-zero .ensures) ∙ c .before .before .before .before .before .before .before .before .found4 .given .1)
-    (simp (sym (c .before .before .before .before .before .before .word-at5 .ensures .0), sym (c .before .before .before .before .before .bytes-of5 .ensures), sym (c .before .before .before .before .tag-of .ensures) ∙ c .before .before .found52 .given .1, c .bad5 .ensures)))))
-
-word-at-requires-6 : tie.Need-word-at-requires-6
-word-at-requires-6 c κs = search needs
-
-bad-requires-6 : tie.Need-bad-requires-6
-bad-requires-6 c κs = search needs
-
-returns-6 : tie.Need-returns-6
-unfolding stepLine wordOf withByte withNumber withoutMore
-returns-6 c =
-    simp (sym (c .before .before .before .before .before .before .before .before .before .before .before .before .before .before .before .before .before .before .before .before .before .before .before .before .before .before .before .before .before .before .before .before .before .word-at .ensures .0), sym (c .before .before .before .before .before .before .before .before .before .before .before .before .before .before .before .before .before .before .before .before .before .before .before .before .before .before .before .before .before .before .before .before .bytes-of .ensures), sym (c .before .before .before .before .before .before .before .before .before .before .before .before .before .before .before .before .before .before .before .before .before .before .before .before .before .before .before .before .before .before .before .byte .ensures) ∙ c .before .before .before .before .before .before .before .before .before .before .before .before .before .before .before .before .before .before .before .before .before .before .before .before .before .before .before .before .before .found1 .given .1)
-    (simp (sym (c .before .before .before .before .before .before .before .before .before .before .before .before .before .before .before .before .before .before .before .before .before .before .before .before .before .before .before .word-at2 .ensures .0), sym (c .before .before .before .before .before .before .before .before .before .before .before .before .before .before .before .before .before .before .before .before .before .before .before .before .before .before .bytes-of2 .ensures), sym (c .before .before .before .before .before .before .before .before .before .before .before .before .before .before .before .before .before .before .before .before .before .before .before .before .before .operation-of .ensures) ∙ c .before .before .before .before .before .before .before .before .before .before .before .before .before .before .before .before .before .before .before .before .before .before .before .found2 .given .1)
-    (simp (sym (c .before .before .before .before .before .before .before .before .before .before .before .before .before .before .before .before .before .before .before .before .before .word-at3 .ensures .0), sym (c .before .before .before .before .before .before .before .before .before .before .before .before .before .before .before .before .before .before .before .before .bytes-of3 .ensures), sym (c .before .before .before .before .before .before .before .before .before .before .before .before .before .before .before .before .before .before .before .slot-of .ensures) ∙ c .before .before .before .before .before .before .before .before .before .before .before .before .before .before .before .before .before .found3 .given .1)
-    (simp (sym (c .before .before .before .before .before .before .before .before .before .before .before .before .before .before .before .word-at4 .ensures .0), sym (c .before .before .before .before .before .before .before .before .before .before .before .before .before .before .bytes-of4 .ensures), sym (c .before .before .before .before .before .before .before .before .before .before .before .before .before .byte-or-zero .ensures) ∙ c .before .before .before .before .before .before .before .before .before .before .before .found4 .given .1)
-    (simp (sym (c .before .before .before .before .before .before .before .before .before .word-at5 .ensures .0), sym (c .before .before .before .before .before .before .before .before .bytes-of5 .ensures), sym (c .before .before .before .before .before .before .before .tag-of .ensures) ∙ c .before .before .before .before .before .found5 .given .1)
-    (simp (sym (c .before .before .before .word-at6 .ensures .0), lt-ltb _ _ (c .before .if1 .taken), c .bad6 .ensures))))))
-
-returns-7 : tie.Need-returns-7
-unfolding stepLine wordOf withByte withNumber withoutMore
-returns-7 c =
-    simp (sym (c .before .before .before .before .before .before .before .before .before .before .before .before .before .before .before .before .before .before .before .before .before .before .before .before .before .before .before .before .before .before .before .before .word-at .ensures .0), sym (c .before .before .before .before .before .before .before .before .before .before .before .before .before .before .before .before .before .before .before .before .before .before .before .before .before .before .before .before .before .before .before .bytes-of .ensures), sym (c .before .before .before .before .before .before .before .before .before .before .before .before .before .before .before .before .before .before .before .before .before .before .before .before .before .before .before .before .before .before .byte .ensures) ∙ c .before .before .before .before .before .before .before .before .before .before .before .before .before .before .before .before .before .before .before .before .before .before .before .before .before .before .before .before .found1 .given .1)
-    (simp (sym (c .before .before .before .before .before .before .before .before .before .before .before .before .before .before .before .before .before .before .before .before .before .before .before .before .before .before .word-at2 .ensures .0), sym (c .before .before .before .before .before .before .before .before .before .before .before .before .before .before .before .before .before .before .before .before .before .before .before .before .before .bytes-of2 .ensures), sym (c .before .before .before .before .before .before .before .before .before .before .before .before .before .before .before .before .before .before .before .before .before .before .before .before .operation-of .ensures) ∙ c .before .before .before .before .before .before .before .before .before .before .before .before .before .before .before .before .before .before .before .before .before .before .found2 .given .1)
-    (simp (sym (c .before .before .before .before .before .before .before .before .before .before .before .before .before .before .before .before .before .before .before .before .word-at3 .ensures .0), sym (c .before .before .before .before .before .before .before .before .before .before .before .before .before .before .before .before .before .before .before .bytes-of3 .ensures), sym (c .before .before .before .before .before .before .before .before .before .before .before .before .before .before .before .before .before .before .slot-of .ensures) ∙ c .before .before .before .before .before .before .before .before .before .before .before .before .before .before .before .before .found3 .given .1)
-    (simp (sym (c .before .before .before .before .before .before .before .before .before .before .before .before .before .before .word-at4 .ensures .0), sym (c .before .before .before .before .before .before .before .before .before .before .before .before .before .bytes-of4 .ensures), sym (c .before .before .before .before .before .before .before .before .before .before .before .before .byte-or-zero .ensures) ∙ c .before .before .before .before .before .before .before .before .before .before .found4 .given .1)
-    (simp (sym (c .before .before .before .before .before .before .before .before .word-at5 .ensures .0), sym (c .before .before .before .before .before .before .before .bytes-of5 .ensures), sym (c .before .before .before .before .before .before .tag-of .ensures) ∙ c .before .before .before .before .found5 .given .1)
-    (simp (sym (c .before .before .word-at6 .ensures .0), le-ltb _ _ (c .if1 .left)))))))
+unfolding stepLine
+returns c = rw (← c .before .before .before .before .before .byte-at .ensures, ← c .before .before .before .before .operation-at .ensures, ← c .before .before .before .slot-at .ensures, ← c .before .before .link-at .ensures, ← c .before .tag-at .ensures) (c .ended .ensures)
 
 pub step-line-spec : {M : Type 1} → statement M
 step-line-spec =
     tie.close
     (tie.spec
-    word-at-requires
-    bytes-of-requires
-    byte-requires
-    enum-known-found1
-    enum-known-found1-2
-    bad-requires
-    returns
-    word-at-requires-2
-    bytes-of-requires-2
-    operation-of-requires
-    enum-known-found2
-    enum-known-found2-2
-    bad-requires-2
-    returns-2
-    word-at-requires-3
-    bytes-of-requires-3
-    slot-of-requires
-    enum-known-found3
-    enum-known-found3-2
-    bad-requires-3
-    returns-3
-    word-at-requires-4
-    bytes-of-requires-4
-    byte-or-zero-requires
-    enum-known-found4
-    enum-known-found4-2
-    bad-requires-4
-    returns-4
-    word-at-requires-5
-    bytes-of-requires-5
-    tag-of-requires
-    enum-known-found5
-    enum-known-found5-2
-    bad-requires-5
-    returns-5
-    word-at-requires-6
-    bad-requires-6
-    returns-6
-    returns-7)
+    byte-at-requires
+    operation-at-requires
+    slot-at-requires
+    link-at-requires
+    tag-at-requires
+    ended-requires
+    returns)

@@ -1,6 +1,7 @@
 -- `script::names::no_slot` meets its contract.
 use borrow.Author.Needs.{needs}
 use mathlib.Core.Path.{sym, _∙_}
+use Rattle.basics.specs.Ascii.{ascii}
 use Rattle.script.specs.Names.{noSlot}
 use Rattle.script.proofs.names.no_slot.Statement.{statement}
 use Rattle.script.proofs.names.no_slot.Tie as tie
@@ -12,7 +13,7 @@ is-requires : tie.Need-is-requires
 is-requires c κs = search needs
 
 returns : tie.Need-returns
-unfolding noSlot
+unfolding noSlot ascii
 returns c = simp (sym (c .before .is .ensures) ∙ c .if1 .taken)
 
 slice-aggregate-is-2 : tie.Need-slice-aggregate-is-2
@@ -22,7 +23,7 @@ is-requires-2 : tie.Need-is-requires-2
 is-requires-2 c κs = search needs
 
 returns-2 : tie.Need-returns-2
-unfolding noSlot
+unfolding noSlot ascii
 returns-2 c = simp (sym (c .before .before .before .is .ensures) ∙ c .before .before .if1 .left) (c .is2 .ensures)
 
 pub no-slot-spec : {M : Type 1} → statement M

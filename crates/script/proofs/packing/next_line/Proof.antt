@@ -14,11 +14,11 @@ add-result c = search needs
 
 returns : tie.Need-returns
 unfolding nextLine
-returns c = (simp (← c .before .past .ensures .0, lt-ltb _ _ (c .if1 .taken)), (omega arith, omega arith))
+returns c = (simp (← c .before .past .ensures, lt-ltb _ _ (c .if1 .taken)), omega arith)
 
 returns-2 : tie.Need-returns-2
 unfolding nextLine
-returns-2 c = (simp (← c .before .past .ensures .0, le-ltb _ _ (c .if1 .left)), (omega arith, omega arith))
+returns-2 c = (simp (← c .before .past .ensures, le-ltb _ _ (c .if1 .left)), omega arith)
 
 pub next-line-spec : {M : Type 1} → statement M
 next-line-spec = tie.close (tie.spec past-requires add-result returns returns-2)

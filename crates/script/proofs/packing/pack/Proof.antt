@@ -19,7 +19,7 @@ loop-holds : tie.Need-loop-holds Inv-loop μ-loop
 loop-holds c = going-start _ _
 
 take-line-requires : tie.Need-take-line-requires Inv-loop μ-loop
-take-line-requires c κs = (c .before .before .loop .inv .here, c .before .before .loop .inv .within)
+take-line-requires c κs = c .before .before .loop .inv .within
 
 enum-known-took : tie.Need-enum-known-took Inv-loop μ-loop
 enum-known-took c = search needs
@@ -45,13 +45,13 @@ add-line c =
     omega (arith, here .inv .few, c .before .before .before .before .before .before .before .before .loop-test .taken, c .before .before .before .before .before .before .before .before .before .before .before .before .good .0 .0)
 
 loop-less : tie.Need-loop-less Inv-loop μ-loop
-loop-less c = omega (arith, c .next-line .ensures .1 .0, c .before .before .before .before .before .before .before .before .loop-test .taken)
+loop-less c = omega (arith, c .next-line .ensures .1, c .before .before .before .before .before .before .before .before .loop-test .taken)
 
 loop-again : tie.Need-loop-again Inv-loop μ-loop
 loop-again c =
     let here = c .before .before .before .before .before .before .before .before .before .loop in
     let call = c .before .before .before .before .before .before .take-line in
-    going-on _ _ _ _ _ _ (here .inv) (c .before .before .before .before .before .before .before .before .loop-test .taken) _ _ (call .ensures .1) (sym (call .ensures .0) ∙ c .before .before .took .given .1) _ (c .next-line .ensures .0) (c .next-line .ensures .1 .0) (c .next-line .ensures .1 .1)
+    going-on _ _ _ _ _ _ (here .inv) (c .before .before .before .before .before .before .before .before .loop-test .taken) _ _ (call .ensures .1) (sym (call .ensures .0) ∙ c .before .before .took .given .1) _ (c .next-line .ensures .0) (c .next-line .ensures .1)
 
 fault-of-requires : tie.Need-fault-of-requires Inv-loop μ-loop
 fault-of-requires c κs = search needs

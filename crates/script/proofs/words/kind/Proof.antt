@@ -1,38 +1,42 @@
 -- `script::words::kind` meets its contract: each return knows the tests before it.
-use borrow.Author.Tests.{eq-eqb, ne-eqb}
+use Prim.Native.Nat.{ℕ}
+use mathlib.Core.Path.{_≡_}
+use mathlib.Core.List.{[], _∷_}
+use mathlib.Core.Logic.{inl, inr, ⊎-elim}
+use borrow.Author.Tests.{ne-eqb}
+use types.Run.{OneOf}
+use Rattle.script.specs.declared.Kind.the-variants.{Blank}
 use Rattle.script.specs.Words.{kindOf}
 use Rattle.script.proofs.words.kind.Statement.{statement}
 use Rattle.script.proofs.words.kind.Tie as tie
 
-returns : tie.Need-returns
+blank : (b : ℕ) → OneOf (9 ∷ 13 ∷ 32 ∷ []) b → Blank ≡ kindOf b
 unfolding kindOf
-returns c = simp (eq-eqb _ _ (c .if1 .taken))
+blank b h = ⊎-elim (λ e. rw e) (λ w. ⊎-elim (λ e. rw e) (λ e. rw e) w) h
+
+returns : tie.Need-returns
+returns c = blank _ (c .match .keys1)
 
 returns-2 : tie.Need-returns-2
 unfolding kindOf
-returns-2 c = simp (ne-eqb _ _ (c .before .if1 .left), eq-eqb _ _ (c .if2 .taken))
+returns-2 c = rw (c .match .keys2)
 
 returns-3 : tie.Need-returns-3
 unfolding kindOf
-returns-3 c = simp (ne-eqb _ _ (c .before .before .if1 .left), ne-eqb _ _ (c .before .if2 .left), eq-eqb _ _ (c .if3 .taken))
+returns-3 c = rw (c .match .keys3)
 
 returns-4 : tie.Need-returns-4
 unfolding kindOf
 returns-4 c =
+    let k = c .match .rest in
     simp
-    (ne-eqb _ _ (c .before .before .before .if1 .left), ne-eqb _ _ (c .before .before .if2 .left), ne-eqb _ _ (c .before .if3 .left), eq-eqb _ _ (c .if4 .taken))
-
-returns-5 : tie.Need-returns-5
-unfolding kindOf
-returns-5 c =
-    simp
-    (ne-eqb _ _ (c .before .before .before .before .if1 .left), ne-eqb _ _ (c .before .before .before .if2 .left), ne-eqb _ _ (c .before .before .if3 .left), ne-eqb _ _ (c .before .if4 .left), eq-eqb _ _ (c .if5 .taken))
-
-returns-6 : tie.Need-returns-6
-unfolding kindOf
-returns-6 c =
-    simp
-    (ne-eqb _ _ (c .before .before .before .before .if1 .left), ne-eqb _ _ (c .before .before .before .if2 .left), ne-eqb _ _ (c .before .before .if3 .left), ne-eqb _ _ (c .before .if4 .left), ne-eqb _ _ (c .if5 .left))
+    (ne-eqb _ 32 (λ e. k .0 .0 .1 (inr (inr e))), ne-eqb _ 9 (λ e. k .0 .0 .1 (inl e)), ne-eqb _ 13 (λ e. k .0 .0 .1 (inr (inl e))), ne-eqb _ 10 (k .0 .1), ne-eqb _ 35 (k .1))
 
 pub kind-spec : {M : Type 1} → statement M
-kind-spec = tie.close (tie.spec returns returns-2 returns-3 returns-4 returns-5 returns-6)
+kind-spec =
+    tie.close
+    (tie.spec
+    returns
+    returns-2
+    returns-3
+    returns-4)

@@ -1,7 +1,5 @@
 -- `script::words::word_at` meets its contract: the run of blanks, and then the run of a word.
 use borrow.Author.Needs.{needs}
-use native.Mathlib.Omega.{arith}
-use mathlib.Core.Path.{sym}
 use Rattle.script.specs.Words.{wordAt}
 use Rattle.script.proofs.words.word_at.Statement.{statement}
 use Rattle.script.proofs.words.word_at.Tie as tie
@@ -14,7 +12,7 @@ past-requires-2 c κs = search needs
 
 returns : tie.Need-returns
 unfolding wordAt
-returns c = (cc, (omega arith, omega arith))
+returns c = rw (← c .before .past .ensures, ← c .past2 .ensures)
 
 pub word-at-spec : {M : Type 1} → statement M
 word-at-spec = tie.close (tie.spec past-requires past-requires-2 returns)
