@@ -8,16 +8,12 @@ use Rattle.machine.specs.declared.Places.{Places}
 use Rattle.machine.specs.Answers.{numbers, numbersOf}
 use Rattle.records.specs.declared.SizesRecord.{SizesRecord}
 use Rattle.records.specs.declared.StepRecord.{StepRecord}
-use Rattle.lines.specs.Decimal.{decimal}
-use Rattle.lines.specs.Line.{joined, bytesOf}
+use Rattle.text.specs.Decimal.{decimal}
+use Rattle.text.specs.Fields.{joined}
+use Rattle.text.specs.Words.{ascii}
+use Rattle.lines.specs.Line.{bytesOf}
 use Rattle.lines.specs.Run.{sizesLine, stepLine, endLine, stopLine}
-use Rattle.lines.proofs.Decimals.{decimal-short}
-
-byte-short : (n : ℕ) → n < 2 ^ 8 → length (decimal n) ≤ 3
-byte-short n h = decimal-short 2 n (omega arith)
-
-word-short : (n : ℕ) → n < 2 ^ 32 → length (decimal n) ≤ 10
-word-short n h = decimal-short 9 n (omega arith)
+use Rattle.text.specs.Digits.{decimal-short, byte-short, word-short}
 
 count-short : (n : ℕ) → n ≤ 6001 → length (decimal n) ≤ 4
 count-short n h = decimal-short 3 n (omega arith)
@@ -44,12 +40,12 @@ pub end-short :
     (steps : ℕ) (p : Places) → steps ≤ 6001 →
     p .free < 2 ^ 8 → p .links < 2 ^ 8 → p .hands < 2 ^ 8 → p .handovers < 2 ^ 8 → p .carried < 2 ^ 8 →
     length (bytesOf (endLine steps p)) ≤ 40
-unfolding bytesOf endLine joined
+unfolding bytesOf endLine joined ascii
 end-short steps p n f l h o k =
     simp length-append
     (omega
     (arith, count-short _ n, byte-short _ f, byte-short _ l, byte-short _ h, byte-short _ o, byte-short _ k))
 
 pub stop-short : (before number : ℕ) → before ≤ 6001 → number < 2 ^ 8 → length (bytesOf (stopLine before number)) ≤ 40
-unfolding bytesOf stopLine joined
+unfolding bytesOf stopLine joined ascii
 stop-short before number n h = simp length-append (omega (arith, count-short _ n, byte-short _ h))

@@ -1,13 +1,9 @@
 -- A line of the program, and its bytes.
 use Prim.Native.Nat.{ℕ}
 use mathlib.Core.List.{List, [], _∷_, _++_, map}
-use Rattle.lines.specs.Decimal.{decimal}
-
--- "Fields are separated by one space": each field but the last is followed by a space, the last by a newline.
-unfoldable pub joined : List (List ℕ) → List ℕ
-joined [] = 10 ∷ []
-joined (field ∷ []) = field ++ 10 ∷ []
-joined (field ∷ next ∷ fields) = field ++ 32 ∷ joined (next ∷ fields)
+use Rattle.text.specs.Decimal.{decimal}
+use Rattle.text.specs.Fields.{joined}
+use Rattle.text.specs.Words.{ascii}
 
 -- a line of numbers alone, or one that begins with `end` or `stop`
 pub data Line : Type 0 where
@@ -15,19 +11,11 @@ pub data Line : Type 0 where
   end : List ℕ → Line
   stop : List ℕ → Line
 
--- the two words in ASCII
-
-abbrev pub endWord : List ℕ
-endWord = 101 ∷ 110 ∷ 100 ∷ []
-
-abbrev pub stopWord : List ℕ
-stopWord = 115 ∷ 116 ∷ 111 ∷ 112 ∷ []
-
--- a line's bytes
+-- a line's bytes: "Fields are separated by one space"
 unfoldable pub bytesOf : Line → List ℕ
 bytesOf (numbers ns) = joined (map decimal ns)
-bytesOf (end ns) = joined (endWord ∷ map decimal ns)
-bytesOf (stop ns) = joined (stopWord ∷ map decimal ns)
+bytesOf (end ns) = joined (ascii "end" ∷ map decimal ns)
+bytesOf (stop ns) = joined (ascii "stop" ∷ map decimal ns)
 
 -- the bytes of lines one after the other
 unfoldable pub text : List Line → List ℕ

@@ -12,7 +12,7 @@ ghost use Prim.Native.Nat.{_≤_};
 ghost use lib.ListN.{length};
 ghost use Rattle.lines.specs.Line.{text};
 ghost use Rattle.lines.specs.Run.{linesSized, textOf};
-ghost use Rattle.lines.specs.Written.{Appended};
+ghost use Rattle.text.specs.Written.{Appended};
 
 // The run of these sizes over the bytes after their record, or the line that stops it at 20.
 fn put_started(left: &[u8], out: &mut [u8], sizes: SizesRecord) -> usize

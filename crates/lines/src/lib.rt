@@ -1,7 +1,5 @@
 // The run of a schedule, from the input's bytes to the bytes of its lines.
-mod field;
 mod first;
-mod line;
 mod steps;
 mod told;
 

@@ -13,7 +13,7 @@ ghost use Prim.Native.Nat.{_+_, _≤_};
 ghost use lib.ListN.{length};
 ghost use Rattle.lines.specs.Line.{bytesOf, text};
 ghost use Rattle.lines.specs.Run.{callOf, lastLine, linesFrom};
-ghost use Rattle.lines.specs.Written.{Appended};
+ghost use Rattle.text.specs.Written.{Appended};
 
 // What a step record says, to the machine.
 fn call_of(step: StepRecord) -> Call

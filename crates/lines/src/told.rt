@@ -1,17 +1,17 @@
 // Writes each kind of line into a lent buffer.
-use crate::line::put_numbers;
-use crate::line::put_word;
 use machine::Answer;
 use machine::Places;
 use records::SizesRecord;
 use records::StepRecord;
+use text::bytes::put_bytes;
+use text::line::put_line;
 ghost use mathlib.Core.Path.{_≡_};
 ghost use Prim.Native.Nat.{_+_, _≤_};
 ghost use lib.ListN.{length};
 ghost use Rattle.machine.specs.Answers.{numbers, numbersOf};
 ghost use Rattle.lines.specs.Line.{bytesOf};
 ghost use Rattle.lines.specs.Run.{sizesLine, stepLine, endLine, stopLine};
-ghost use Rattle.lines.specs.Written.{Appended};
+ghost use Rattle.text.specs.Written.{Appended};
 
 // An answer as numbers.
 pub(crate) struct Numbers {
@@ -94,7 +94,7 @@ pub(crate) fn put_sizes(out: &mut [u8], at: usize, sizes: SizesRecord) -> usize
         sizes.links as u32,
         sizes.objects as u32,
     ];
-    put_numbers(out, at, &numbers)
+    put_line(out, at, &numbers)
 }
 
 // "Per step: number from 1, thread, operation, answer or refusal number, a, b."
@@ -117,7 +117,7 @@ pub(crate) fn put_step(
         told.a,
         told.b,
     ];
-    put_numbers(out, at, &numbers)
+    put_line(out, at, &numbers)
 }
 
 // "Last line: `end`, steps, then objects free, in links, in hands, in handovers, carried."
@@ -125,7 +125,7 @@ pub(crate) fn put_end(out: &mut [u8], at: usize, steps: u32, places: Places) -> 
     requires { ⌜ (steps ≤ 6001) × (at + 40 ≤ length (now out)) ⌝ }
     ensures { λ r. ⌜ (r ≤ at + 40) × Appended (now (out .entry)) at (bytesOf (endLine steps places)) (now (out .exit)) r ⌝ }
 {
-    let next = put_word(out, at, b"end");
+    let next = put_bytes(out, at, b"end ");
     let numbers = [
         steps,
         places.free as u32,
@@ -134,7 +134,7 @@ pub(crate) fn put_end(out: &mut [u8], at: usize, steps: u32, places: Places) -> 
         places.handovers as u32,
         places.carried as u32,
     ];
-    put_numbers(out, next, &numbers)
+    put_line(out, next, &numbers)
 }
 
 // "`stop`, the count of good records before, and the number"
@@ -142,7 +142,7 @@ pub(crate) fn put_stop(out: &mut [u8], at: usize, before: u32, number: u8) -> us
     requires { ⌜ (before ≤ 6001) × (at + 40 ≤ length (now out)) ⌝ }
     ensures { λ r. ⌜ (r ≤ at + 40) × Appended (now (out .entry)) at (bytesOf (stopLine before number)) (now (out .exit)) r ⌝ }
 {
-    let next = put_word(out, at, b"stop");
+    let next = put_bytes(out, at, b"stop ");
     let numbers = [before, number as u32];
-    put_numbers(out, next, &numbers)
+    put_line(out, next, &numbers)
 }

@@ -1,9 +1,9 @@
 -- "Any two results allowed by it are proved the same", for the public functions whose law does not stand with them: `machine`'s are in `laws`,
 -- those of `records` and `reasons` in their own Promise.
-use Prim.Native.Nat.{ℕ}
+use Prim.Native.Nat.{ℕ, _*_}
 use mathlib.Core.Path.{_≡_}
 use mathlib.Core.Bool.{_&&_}
-use mathlib.Core.List.{List}
+use mathlib.Core.List.{List, map}
 use lib.ListN.{length, getD, replicate}
 use Rattle.basics.specs.Counts.{bit, howMany}
 use Rattle.basics.specs.Functions.{allowed-once}
@@ -17,6 +17,10 @@ use Rattle.entries.specs.Sizes.{inRange}
 use Rattle.entries.specs.Phases.{isIdle, carriedBy, scansAt, returnsTo}
 use Rattle.entries.specs.Entries.{idleThread, emptySlot, isObject, sizesGood, linkGood, threadGood, slotGood, tagGood}
 use Rattle.entries.specs.Tally.{tallied}
+use Rattle.text.specs.Decimal.{decimal}
+use Rattle.text.specs.Fields.{joined}
+use Rattle.text.specs.Words.{filled}
+use Rattle.text.specs.Written.{placeAfter, bufferAfter}
 use Rattle.lines.specs.Lent as lines
 use Rattle.sentences.specs.Lent as sentences
 use Rattle.script.specs.Packing.{put, packOf}
@@ -45,6 +49,20 @@ tell-once input = lent-once _ _
 pub pack-once :
     (text : List ℕ) → LentOnce (λ buffer. packOf (length buffer) text .said) (λ buffer. put 0 (packOf (length buffer) text .bytes) buffer)
 pack-once text = lent-once _ _
+
+-- ---- text: each puts bytes into a lent buffer at a place
+
+abbrev pub PutOnce : ℕ → List ℕ → Type 0
+PutOnce room bytes = (place : ℕ) → LentOnce (placeAfter room bytes place) (bufferAfter room bytes place)
+
+pub put-bytes-once : (bytes : List ℕ) → PutOnce (length bytes) bytes
+put-bytes-once bytes place = lent-once _ _
+
+pub put-line-once : (numbers : List ℕ) → PutOnce (length (joined (map decimal numbers))) (joined (map decimal numbers))
+put-line-once numbers place = lent-once _ _
+
+pub put-filled-once : (template numbers : List ℕ) → PutOnce (3 * length template) (filled template numbers)
+put-filled-once template numbers place = lent-once _ _
 
 -- ---- entries
 

@@ -1,6 +1,5 @@
--- What a reader has to believe: words with numbers filled in, an object's sentence, how a run ends, the text, a written buffer. `Promise` has what
+-- What a reader has to believe: an object's sentence, how a run ends, the text, a written buffer. `Promise` has what
 -- is promised of them.
-pub mod Words
 pub mod Sentence
 pub mod Ends
 pub mod Told

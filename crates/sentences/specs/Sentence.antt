@@ -13,7 +13,7 @@ use Rattle.reasons.specs.declared.Hazard.{Hazard}
 use Rattle.reasons.specs.declared.Hazard.the-variants.{At, Nowhere}
 use Rattle.reasons.specs.declared.Explained.{Explained}
 use Rattle.reasons.specs.declared.Explained.the-variants.{Kept, Refused}
-use Rattle.sentences.specs.Words.{words}
+use Rattle.text.specs.Words.{words}
 
 -- "A slot's position is thread × H + slot". Without slots, where there is no position, both are 0.
 

@@ -10,7 +10,7 @@ ghost use mathlib.Core.Path.{_≡_};
 ghost use Prim.Native.Nat.{_≤_};
 ghost use lib.ListN.{length};
 ghost use Rattle.lines.specs.Run.{callOf};
-ghost use Rattle.lines.specs.Written.{Appended};
+ghost use Rattle.text.specs.Written.{Appended};
 ghost use Rattle.sentences.specs.Ends.{isEnd, lastOf, endFrom};
 ghost use Rattle.sentences.specs.Told.{textAt};
 

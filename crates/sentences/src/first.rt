@@ -8,7 +8,7 @@ use records::reading::read;
 use records::reading::rest;
 ghost use Prim.Native.Nat.{_≤_};
 ghost use lib.ListN.{length};
-ghost use Rattle.lines.specs.Written.{Appended};
+ghost use Rattle.text.specs.Written.{Appended};
 ghost use Rattle.sentences.specs.Ends.{endSized};
 ghost use Rattle.sentences.specs.Told.{textAt, textOf};
 

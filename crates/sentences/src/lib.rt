@@ -1,7 +1,5 @@
 // Why each object is still here when the run of a schedule has ended, in words.
-mod digits;
 mod ending;
-mod filling;
 mod first;
 mod objects;
 mod sentence;

@@ -4,7 +4,7 @@ use machine::State;
 use reasons::why;
 ghost use Prim.Native.Nat.{_≤_};
 ghost use lib.ListN.{length};
-ghost use Rattle.lines.specs.Written.{Appended};
+ghost use Rattle.text.specs.Written.{Appended};
 ghost use Rattle.sentences.specs.Told.{linesOf};
 
 // The lines of objects 1 to N, at the front of a buffer that has room for them.

@@ -1,13 +1,13 @@
 // Writes the sentence that says why an object is still here into a lent buffer.
-use crate::filling::put_filled;
 use reasons::Explained;
 use reasons::Guard;
 use reasons::Hazard;
 use reasons::Reason;
+use text::filling::put_filled;
 ghost use mathlib.Core.Path.{_≡_};
 ghost use Prim.Native.Nat.{_+_, _≤_};
 ghost use lib.ListN.{length};
-ghost use Rattle.lines.specs.Written.{Appended};
+ghost use Rattle.text.specs.Written.{Appended};
 ghost use Rattle.sentences.specs.Sentence.{threadOf, slotOf, guardWords, reasonWords, hazardWords, lineOf};
 
 // The thread whose slot is at a position, and which of its slots it is.

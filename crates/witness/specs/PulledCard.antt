@@ -4,9 +4,9 @@ use Prim.Native.Nat.{ℕ}
 use mathlib.Core.Path.{_≡_, refl, _∙_}
 use mathlib.Core.List.{List, [], _∷_, _++_}
 use Rattle.basics.specs.First as first
-use Rattle.lines.specs.Decimal.{digits, decimal}
+use Rattle.text.specs.Decimal.{digits, decimal}
 use Rattle.reasons.specs.Reasons as reasons
-use Rattle.sentences.specs.Words.{ascii, filled}
+use Rattle.text.specs.Words.{ascii, filled}
 use Rattle.sentences.specs.Sentence.{threadOf, slotOf, guardWords, reasonWords, hazardWords, lineOf}
 use Rattle.sentences.specs.Told.{linesFrom, linesOf, textOf}
 use Rattle.printed.specs.Input.{inputOf}

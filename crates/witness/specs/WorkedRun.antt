@@ -2,8 +2,10 @@
 use Prim.Native.Nat.{ℕ}
 use mathlib.Core.Path.{_≡_, refl, ap, _∙_}
 use mathlib.Core.List.{List, [], _∷_}
-use Rattle.lines.specs.Decimal.{digits, decimal}
-use Rattle.lines.specs.Line.{Line, numbers, end, joined, bytesOf, text}
+use Rattle.text.specs.Decimal.{digits, decimal}
+use Rattle.text.specs.Fields.{joined}
+use Rattle.text.specs.Words.{ascii}
+use Rattle.lines.specs.Line.{Line, numbers, end, bytesOf, text}
 use Rattle.lines.specs.Run.{linesOf, textOf}
 use Rattle.printed.specs.Input.{inputOf}
 use Rattle.witness.specs.Printing.{quickLines, lines-quick, printing}
@@ -99,7 +101,7 @@ pub worked-run : linesOf schedule ≡ printed
 worked-run = lines-quick schedule ∙ quickly
 
 in-bytes : text printed ≡ printedText
-unfolding digits decimal joined bytesOf text printed printedText
+unfolding digits decimal joined ascii bytesOf text printed printedText
 in-bytes = refl
 
 pub worked-text : textOf schedule ≡ printedText

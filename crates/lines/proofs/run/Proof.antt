@@ -6,8 +6,8 @@ use native.Mathlib.Nat.{zero-add}
 use lib.ListN.{length}
 use borrow.Author.Tests.{lt-ltb, le-ltb}
 use Rattle.lines.specs.Lent.{roomForAll, answerOf, bufferOf}
-use Rattle.lines.specs.Written.{written}
-use Rattle.lines.proofs.Appending.{had-room}
+use Rattle.text.specs.Written.{written}
+use Rattle.text.specs.Appending.{had-room}
 use borrow.Author.Needs.{needs}
 use Rattle.lines.proofs.run.Statement.{statement}
 use Rattle.lines.proofs.run.Tie as tie

@@ -18,8 +18,10 @@ use Rattle.records.specs.declared.Read.the-variants.{Sizes, Step, End, Refused}
 use Rattle.records.specs.Marks.{marked}
 use Rattle.records.specs.Reading.{sizesAt, stepAt, zerosAtEnd, readOf}
 use Rattle.records.specs.Rest.{restAfter, restOf}
-use Rattle.lines.specs.Decimal.{decimal}
-use Rattle.lines.specs.Line.{Line, numbers, end, stop, joined, endWord, stopWord, bytesOf, text}
+use Rattle.text.specs.Decimal.{decimal}
+use Rattle.text.specs.Fields.{joined}
+use Rattle.text.specs.Words.{ascii}
+use Rattle.lines.specs.Line.{Line, numbers, end, stop, bytesOf, text}
 use Rattle.lines.specs.Run.{sizesLine, stopLine, linesAt, linesFrom, linesStarted, linesSized, linesFirst, linesOf, textOf}
 
 -- ten bytes are enough for a reading
@@ -117,8 +119,8 @@ joined-some (field ∷ next ∷ fields) = rw length-append (omega arith)
 line-some : (line : Line) → 0 < length (bytesOf line)
 unfolding bytesOf
 line-some (numbers ns) = joined-some (map decimal ns)
-line-some (end ns) = joined-some (endWord ∷ map decimal ns)
-line-some (stop ns) = joined-some (stopWord ∷ map decimal ns)
+line-some (end ns) = joined-some (ascii "end" ∷ map decimal ns)
+line-some (stop ns) = joined-some (ascii "stop" ∷ map decimal ns)
 
 text-some : (line : Line) (lines : List Line) → 0 < length (text (line ∷ lines))
 unfolding text

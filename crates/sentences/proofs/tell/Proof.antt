@@ -5,8 +5,8 @@ use mathlib.Core.Path.{_∙_}
 use native.Mathlib.Nat.{zero-add}
 use lib.ListN.{length}
 use borrow.Author.Tests.{lt-ltb, le-ltb}
-use Rattle.lines.specs.Written.{written}
-use Rattle.lines.proofs.Appending.{had-room}
+use Rattle.text.specs.Written.{written}
+use Rattle.text.specs.Appending.{had-room}
 use Rattle.sentences.specs.Lent.{roomForAll, answerOf, bufferOf}
 use borrow.Author.Needs.{needs}
 use Rattle.sentences.proofs.tell.Statement.{statement}

@@ -12,7 +12,7 @@ use Rattle.records.specs.declared.Read.{Read}
 use Rattle.records.specs.declared.Read.the-variants.{Sizes, Step, End, Refused}
 use Rattle.lines.specs.Line.{bytesOf, text}
 use Rattle.lines.specs.Run.{stepLine, linesFrom}
-use Rattle.lines.proofs.Appending.{Leads, leads-start, leads-on, leads-end}
+use Rattle.text.specs.Appending.{Leads, leads-start, leads-on, leads-end}
 use Rattle.lines.proofs.Runs.{Ends, last-text, step-text}
 use Rattle.lines.proofs.steps.put_steps.Statement.{statement}
 use Rattle.lines.proofs.steps.put_steps.Tie as tie

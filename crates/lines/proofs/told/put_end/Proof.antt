@@ -6,11 +6,14 @@ use Rattle.machine.specs.declared.Places.{Places}
 use native.Mathlib.Omega.{arith}
 use lib.ListN.{length}
 use lib.Dec.{lit<}
-use Rattle.lines.specs.Decimal.{decimal}
-use Rattle.lines.specs.Line.{joined, bytesOf, endWord}
+use Rattle.text.specs.Decimal.{decimal}
+use Rattle.text.specs.Fields.{joined}
+use Rattle.text.specs.Words.{ascii}
+use Rattle.lines.specs.Line.{bytesOf}
 use Rattle.lines.specs.Run.{endLine}
-use Rattle.lines.proofs.Appending.{up-to, first-room, second-room, both}
-use Rattle.lines.proofs.Fields.{joined-more}
+use Rattle.text.specs.Appending.{up-to, first-room, second-room, both}
+use Rattle.text.specs.Joining.{joined-more}
+use Rattle.text.specs.Putting.{fitted}
 use Rattle.lines.proofs.Short.{end-short}
 use borrow.Author.Needs.{needs}
 use Rattle.lines.proofs.told.put_end.Statement.{statement}
@@ -21,9 +24,9 @@ abbrev numbers-of : ℕ → Places → List ℕ
 numbers-of steps places =
     steps ∷ places .free ∷ places .links ∷ places .hands ∷ places .handovers ∷ places .carried ∷ []
 
-split : (steps : ℕ) (places : Places) → bytesOf (endLine steps places) ≡ (endWord ++ 32 ∷ []) ++ joined (map decimal (numbers-of steps places))
+split : (steps : ℕ) (places : Places) → bytesOf (endLine steps places) ≡ (ascii "end" ++ 32 ∷ []) ++ joined (map decimal (numbers-of steps places))
 unfolding bytesOf endLine
-split steps places = joined-more endWord (map decimal (numbers-of steps places)) (lit< tt)
+split steps places = joined-more (ascii "end") (map decimal (numbers-of steps places)) (lit< tt)
 
 short : (c : tie.Start) → length (bytesOf (endLine (c .args .steps) (c .args .places))) ≤ 40
 short c =
@@ -34,11 +37,11 @@ room :
     c .args .at + length (bytesOf (endLine (c .args .steps) (c .args .places))) ≤ length (c .args .out .now)
 room c = omega (arith, short c, c .pre .1)
 
-slice-aggregate-put-word : tie.Need-slice-aggregate-put-word
-slice-aggregate-put-word c = search needs
+slice-aggregate-put-bytes : tie.Need-slice-aggregate-put-bytes
+slice-aggregate-put-bytes c = search needs
 
-put-word-requires : tie.Need-put-word-requires
-put-word-requires c κs = first-room (c .before .before .before .args .out .now) _ (endWord ++ 32 ∷ []) (joined (map decimal (numbers-of (c .before .before .before .args .steps) (c .before .before .before .args .places)))) (split (c .before .before .before .args .steps) (c .before .before .before .args .places)) (room (c .before .before .before))
+put-bytes-requires : tie.Need-put-bytes-requires
+put-bytes-requires c κs = tt
 
 cast-t12 : tie.Need-cast-t12
 cast-t12 c = search needs
@@ -55,32 +58,38 @@ cast-t15 c = search needs
 cast-t16 : tie.Need-cast-t16
 cast-t16 c = search needs
 
-slice-aggregate-put-numbers : tie.Need-slice-aggregate-put-numbers
-slice-aggregate-put-numbers c = search needs
+slice-aggregate-put-line : tie.Need-slice-aggregate-put-line
+slice-aggregate-put-line c = search needs
 
-put-numbers-requires : tie.Need-put-numbers-requires
-put-numbers-requires c κs = (lit< tt, second-room _ _ (endWord ++ 32 ∷ []) (joined (map decimal (numbers-of (c .before .before .before .before .before .before .before .before .before .before .before .before .before .args .steps) (c .before .before .before .before .before .before .before .before .before .before .before .before .before .args .places)))) (split (c .before .before .before .before .before .before .before .before .before .before .before .before .before .args .steps) (c .before .before .before .before .before .before .before .before .before .before .before .before .before .args .places)) (room (c .before .before .before .before .before .before .before .before .before .before .before .before .before)) (c .before .before .before .before .before .before .before .before .before .put-word .ensures))
+put-line-requires : tie.Need-put-line-requires
+put-line-requires c κs = tt
 
 same-length : tie.Need-same-length
 same-length c = search needs
 
 returns : tie.Need-returns
+unfolding ascii
 returns c =
-    let all = both _ _ (endWord ++ 32 ∷ []) (joined (map decimal (numbers-of (c .before .before .before .before .before .before .before .before .before .before .before .before .before .before .before .before .args .steps) (c .before .before .before .before .before .before .before .before .before .before .before .before .before .before .before .before .args .places)))) (split (c .before .before .before .before .before .before .before .before .before .before .before .before .before .before .before .before .args .steps) (c .before .before .before .before .before .before .before .before .before .before .before .before .before .before .before .before .args .places)) (room (c .before .before .before .before .before .before .before .before .before .before .before .before .before .before .before .before)) (c .before .before .before .before .before .before .before .before .before .before .before .before .put-word .ensures) (c .before .before .put-numbers .ensures) in
-    (up-to 40 all (short (c .before .before .before .before .before .before .before .before .before .before .before .before .before .before .before .before)), all)
+    let start = c .before .before .before .before .before .before .before .before .before .before .before .before .before .before .before .before in
+    let line = joined (map decimal (numbers-of (start .args .steps) (start .args .places))) in
+    let parts = split (start .args .steps) (start .args .places) in
+    let word = fitted (first-room (start .args .out .now) (start .args .at) (ascii "end" ++ 32 ∷ []) line parts (room start)) (c .before .before .before .before .before .before .before .before .before .before .before .before .put-bytes .ensures) in
+    let numbers = fitted (second-room _ _ (ascii "end" ++ 32 ∷ []) line parts (room start) word) (c .before .before .put-line .ensures) in
+    let all = both _ _ (ascii "end" ++ 32 ∷ []) line parts (room start) word numbers in
+    (up-to 40 all (short start), all)
 
 pub put-end-spec : {M : Type 1} → statement M
 put-end-spec =
     tie.close
     (tie.spec
-    slice-aggregate-put-word
-    put-word-requires
+    slice-aggregate-put-bytes
+    put-bytes-requires
     cast-t12
     cast-t13
     cast-t14
     cast-t15
     cast-t16
-    slice-aggregate-put-numbers
-    put-numbers-requires
+    slice-aggregate-put-line
+    put-line-requires
     same-length
     returns)

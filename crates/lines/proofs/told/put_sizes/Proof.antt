@@ -2,10 +2,10 @@
 use Prim.Native.Nat.{_+_, _≤_}
 use native.Mathlib.Omega.{arith}
 use lib.ListN.{length}
-use lib.Dec.{lit<}
 use Rattle.lines.specs.Line.{bytesOf}
 use Rattle.lines.specs.Run.{sizesLine}
-use Rattle.lines.proofs.Appending.{up-to}
+use Rattle.text.specs.Appending.{up-to}
+use Rattle.text.specs.Putting.{fitted}
 use Rattle.lines.proofs.Short.{sizes-short}
 use borrow.Author.Needs.{needs}
 use Rattle.lines.proofs.told.put_sizes.Statement.{statement}
@@ -29,12 +29,11 @@ cast-t7 c = search needs
 cast-t8 : tie.Need-cast-t8
 cast-t8 c = search needs
 
-slice-aggregate-put-numbers : tie.Need-slice-aggregate-put-numbers
-slice-aggregate-put-numbers c = search needs
+slice-aggregate-put-line : tie.Need-slice-aggregate-put-line
+slice-aggregate-put-line c = search needs
 
-put-numbers-requires : tie.Need-put-numbers-requires
-unfolding bytesOf sizesLine
-put-numbers-requires c κs = (lit< tt, room (c .before .before .before .before .before .before .before))
+put-line-requires : tie.Need-put-line-requires
+put-line-requires c κs = tt
 
 same-length : tie.Need-same-length
 same-length c = search needs
@@ -42,7 +41,7 @@ same-length c = search needs
 returns : tie.Need-returns
 unfolding bytesOf sizesLine
 returns c =
-    let all = c .before .before .put-numbers .ensures in
+    let all = fitted (room (c .before .before .before .before .before .before .before .before .before .before)) (c .before .before .put-line .ensures) in
     (up-to 40 all (short (c .before .before .before .before .before .before .before .before .before .before)), all)
 
 pub put-sizes-spec : {M : Type 1} → statement M
@@ -53,7 +52,7 @@ put-sizes-spec =
     cast-t6
     cast-t7
     cast-t8
-    slice-aggregate-put-numbers
-    put-numbers-requires
+    slice-aggregate-put-line
+    put-line-requires
     same-length
     returns)

@@ -4,14 +4,15 @@ use mathlib.Core.Path.{_≡_}
 use mathlib.Core.List.{[], _∷_, map}
 use native.Mathlib.Omega.{arith}
 use lib.ListN.{length}
-use lib.Dec.{lit<}
 use Rattle.machine.specs.declared.Answer.{Answer}
 use Rattle.machine.specs.Answers.{numbers, numbersOf}
 use Rattle.records.specs.declared.StepRecord.{StepRecord}
-use Rattle.lines.specs.Decimal.{decimal}
-use Rattle.lines.specs.Line.{joined, bytesOf}
+use Rattle.text.specs.Decimal.{decimal}
+use Rattle.text.specs.Fields.{joined}
+use Rattle.lines.specs.Line.{bytesOf}
 use Rattle.lines.specs.Run.{stepLine}
-use Rattle.lines.proofs.Appending.{up-to}
+use Rattle.text.specs.Appending.{up-to}
+use Rattle.text.specs.Putting.{fitted}
 use Rattle.lines.proofs.Short.{step-short}
 use borrow.Author.Needs.{needs}
 use Rattle.lines.proofs.told.put_step.Statement.{statement}
@@ -67,21 +68,20 @@ cast-t9 c = search needs
 cast-t10 : tie.Need-cast-t10
 cast-t10 c = search needs
 
-slice-aggregate-put-numbers : tie.Need-slice-aggregate-put-numbers
-slice-aggregate-put-numbers c = search needs
+slice-aggregate-put-line : tie.Need-slice-aggregate-put-line
+slice-aggregate-put-line c = search needs
 
-put-numbers-requires : tie.Need-put-numbers-requires
-put-numbers-requires c κs = (lit< tt, rw (line (c .before .before .before .before .before)) at (room (c .before .before .before .before .before)))
+put-line-requires : tie.Need-put-line-requires
+put-line-requires c κs = tt
 
 same-length : tie.Need-same-length
 same-length c = search needs
 
 returns : tie.Need-returns
 returns c =
-    let now = c .before .before .before .before .before .before .before .before in (
-      up-to 40 (c .before .before .put-numbers .ensures) (rw (line now) at (short now)),
-      rw (line now) (c .before .before .put-numbers .ensures),
-    )
+    let now = c .before .before .before .before .before .before .before .before in
+    let all = fitted (rw (line now) at (room now)) (c .before .before .put-line .ensures) in
+    (up-to 40 all (rw (line now) at (short now)), rw (line now) all)
 
 pub put-step-spec : {M : Type 1} → statement M
 put-step-spec =
@@ -91,7 +91,7 @@ put-step-spec =
     cast-t8
     cast-t9
     cast-t10
-    slice-aggregate-put-numbers
-    put-numbers-requires
+    slice-aggregate-put-line
+    put-line-requires
     same-length
     returns)

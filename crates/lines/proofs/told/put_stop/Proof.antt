@@ -5,11 +5,14 @@ use mathlib.Core.List.{List, [], _∷_, _++_, map}
 use native.Mathlib.Omega.{arith}
 use lib.ListN.{length}
 use lib.Dec.{lit<}
-use Rattle.lines.specs.Decimal.{decimal}
-use Rattle.lines.specs.Line.{joined, bytesOf, stopWord}
+use Rattle.text.specs.Decimal.{decimal}
+use Rattle.text.specs.Fields.{joined}
+use Rattle.text.specs.Words.{ascii}
+use Rattle.lines.specs.Line.{bytesOf}
 use Rattle.lines.specs.Run.{stopLine}
-use Rattle.lines.proofs.Appending.{up-to, first-room, second-room, both}
-use Rattle.lines.proofs.Fields.{joined-more}
+use Rattle.text.specs.Appending.{up-to, first-room, second-room, both}
+use Rattle.text.specs.Joining.{joined-more}
+use Rattle.text.specs.Putting.{fitted}
 use Rattle.lines.proofs.Short.{stop-short}
 use borrow.Author.Needs.{needs}
 use Rattle.lines.proofs.told.put_stop.Statement.{statement}
@@ -19,9 +22,9 @@ use Rattle.lines.proofs.told.put_stop.Tie as tie
 abbrev numbers-of : ℕ → ℕ → List ℕ
 numbers-of before number = before ∷ number ∷ []
 
-split : (before number : ℕ) → bytesOf (stopLine before number) ≡ (stopWord ++ 32 ∷ []) ++ joined (map decimal (numbers-of before number))
+split : (before number : ℕ) → bytesOf (stopLine before number) ≡ (ascii "stop" ++ 32 ∷ []) ++ joined (map decimal (numbers-of before number))
 unfolding bytesOf stopLine
-split before number = joined-more stopWord (map decimal (numbers-of before number)) (lit< tt)
+split before number = joined-more (ascii "stop") (map decimal (numbers-of before number)) (lit< tt)
 
 short : (c : tie.Start) → length (bytesOf (stopLine (c .args .before) (c .args .number))) ≤ 40
 short c = stop-short (c .args .before) (c .args .number) (c .pre .0) (search needs)
@@ -31,33 +34,39 @@ room :
     c .args .at + length (bytesOf (stopLine (c .args .before) (c .args .number))) ≤ length (c .args .out .now)
 room c = omega (arith, short c, c .pre .1)
 
-slice-aggregate-put-word : tie.Need-slice-aggregate-put-word
-slice-aggregate-put-word c = search needs
+slice-aggregate-put-bytes : tie.Need-slice-aggregate-put-bytes
+slice-aggregate-put-bytes c = search needs
 
-put-word-requires : tie.Need-put-word-requires
-put-word-requires c κs = first-room (c .before .before .before .args .out .now) _ (stopWord ++ 32 ∷ []) (joined (map decimal (numbers-of (c .before .before .before .args .before) (c .before .before .before .args .number)))) (split (c .before .before .before .args .before) (c .before .before .before .args .number)) (room (c .before .before .before))
+put-bytes-requires : tie.Need-put-bytes-requires
+put-bytes-requires c κs = tt
 
-slice-aggregate-put-numbers : tie.Need-slice-aggregate-put-numbers
-slice-aggregate-put-numbers c = search needs
+slice-aggregate-put-line : tie.Need-slice-aggregate-put-line
+slice-aggregate-put-line c = search needs
 
-put-numbers-requires : tie.Need-put-numbers-requires
-put-numbers-requires c κs = (lit< tt, second-room _ _ (stopWord ++ 32 ∷ []) (joined (map decimal (numbers-of (c .before .before .before .before .before .before .before .before .args .before) (c .before .before .before .before .before .before .before .before .args .number)))) (split (c .before .before .before .before .before .before .before .before .args .before) (c .before .before .before .before .before .before .before .before .args .number)) (room (c .before .before .before .before .before .before .before .before)) (c .before .before .before .before .put-word .ensures))
+put-line-requires : tie.Need-put-line-requires
+put-line-requires c κs = tt
 
 same-length : tie.Need-same-length
 same-length c = search needs
 
 returns : tie.Need-returns
+unfolding ascii
 returns c =
-    let all = both _ _ (stopWord ++ 32 ∷ []) (joined (map decimal (numbers-of (c .before .before .before .before .before .before .before .before .before .before .before .args .before) (c .before .before .before .before .before .before .before .before .before .before .before .args .number)))) (split (c .before .before .before .before .before .before .before .before .before .before .before .args .before) (c .before .before .before .before .before .before .before .before .before .before .before .args .number)) (room (c .before .before .before .before .before .before .before .before .before .before .before)) (c .before .before .before .before .before .before .before .put-word .ensures) (c .before .before .put-numbers .ensures) in
-    (up-to 40 all (short (c .before .before .before .before .before .before .before .before .before .before .before)), all)
+    let start = c .before .before .before .before .before .before .before .before .before .before .before in
+    let line = joined (map decimal (numbers-of (start .args .before) (start .args .number))) in
+    let parts = split (start .args .before) (start .args .number) in
+    let word = fitted (first-room (start .args .out .now) (start .args .at) (ascii "stop" ++ 32 ∷ []) line parts (room start)) (c .before .before .before .before .before .before .before .put-bytes .ensures) in
+    let numbers = fitted (second-room _ _ (ascii "stop" ++ 32 ∷ []) line parts (room start) word) (c .before .before .put-line .ensures) in
+    let all = both _ _ (ascii "stop" ++ 32 ∷ []) line parts (room start) word numbers in
+    (up-to 40 all (short start), all)
 
 pub put-stop-spec : {M : Type 1} → statement M
 put-stop-spec =
     tie.close
     (tie.spec
-    slice-aggregate-put-word
-    put-word-requires
-    slice-aggregate-put-numbers
-    put-numbers-requires
+    slice-aggregate-put-bytes
+    put-bytes-requires
+    slice-aggregate-put-line
+    put-line-requires
     same-length
     returns)

@@ -2,7 +2,7 @@
 use mathlib.Core.Path.{sym, _∙_}
 use Rattle.sentences.specs.Ends.{lastOf}
 use Rattle.sentences.specs.Told.{textAt}
-use Rattle.sentences.proofs.Nothing.{nothing}
+use Rattle.text.specs.Nothing.{nothing}
 use borrow.Author.Needs.{needs}
 use Rattle.sentences.proofs.ending.put_last.Statement.{statement}
 use Rattle.sentences.proofs.ending.put_last.Tie as tie

@@ -1,6 +1,6 @@
 -- `sentences::first::put_started` meets its contract: the text of the run that starts, or nothing.
 use Rattle.sentences.specs.Told.{textAt}
-use Rattle.sentences.proofs.Nothing.{nothing}
+use Rattle.text.specs.Nothing.{nothing}
 use Rattle.sentences.proofs.Endings.{good-end, refused-end}
 use borrow.Author.Needs.{needs}
 use Rattle.sentences.proofs.first.put_started.Statement.{statement}

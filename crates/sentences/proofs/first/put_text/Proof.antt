@@ -2,7 +2,7 @@
 use mathlib.Core.Path.{sym, _∙_}
 use Rattle.sentences.specs.Ends.{endFirst}
 use Rattle.sentences.specs.Told.{textAt, textOf}
-use Rattle.sentences.proofs.Nothing.{nothing}
+use Rattle.text.specs.Nothing.{nothing}
 use Rattle.sentences.proofs.Endings.{first-end, not-sizes}
 use borrow.Author.Needs.{needs}
 use Rattle.sentences.proofs.first.put_text.Statement.{statement}

@@ -4,10 +4,10 @@ use Prim.Native.Nat.{_+_, _-_, _*_, _≤_}
 use mathlib.Core.Path.{_≡_}
 use mathlib.Core.List.{_++_}
 use native.Mathlib.Omega.{arith}
-use Rattle.lines.proofs.Appending.{Leads, leads-start, leads-on, leads-end}
+use Rattle.text.specs.Appending.{Leads, leads-start, leads-on, leads-end}
 use Rattle.sentences.specs.Sentence.{lineOf}
 use Rattle.sentences.specs.Told.{linesFrom, linesOf}
-use Rattle.sentences.proofs.Nothing.{nothing}
+use Rattle.text.specs.Nothing.{nothing}
 use Rattle.sentences.proofs.Each.{all-lines, next-line, no-line}
 use Rattle.sentences.proofs.objects.put_lines.Statement.{statement}
 use Rattle.sentences.proofs.objects.put_lines.Tie as tie

@@ -1,7 +1,8 @@
 -- `sentences::sentence::put_handover` meets its contract: the words of the handover and then those of its guard.
 use native.Mathlib.Omega.{arith}
-use Rattle.lines.proofs.Appending.{then}
-use Rattle.sentences.specs.Words.{ascii}
+use Rattle.text.specs.Appending.{then}
+use Rattle.text.specs.Putting.{fitted}
+use Rattle.text.specs.Words.{ascii}
 use Rattle.sentences.specs.Sentence.{reasonWords}
 use borrow.Author.Needs.{needs}
 use Rattle.sentences.proofs.sentence.put_handover.Statement.{statement}
@@ -28,11 +29,12 @@ same-length c = search needs
 returns : tie.Need-returns
 unfolding reasonWords ascii
 returns c =
-    let handover = c .before .before .before .before .before .before .put-filled .ensures in
+    let filled = c .before .before .before .before .before .before .put-filled .ensures in
+    let handover = fitted (omega arith) (filled .1) in
     let guard = c .before .before .put-guard .ensures in (
-      omega (arith, handover .0, guard .0),
+      omega (arith, filled .0, guard .0),
       rw (← c .before .before .before .before .before .before .before .before .before .before .thread-of .ensures, ← c .before .before .before .before .before .before .before .before .before .slot-of .ensures)
-          (then (handover .1) (omega (arith, handover .0, handover .1 .next, c .before .before .before .before .before .before .before .before .before .before .before .before .pre)) (guard .1)),
+          (then handover (omega (arith, filled .0, handover .next, c .before .before .before .before .before .before .before .before .before .before .before .before .pre)) (guard .1)),
     )
 
 pub put-handover-spec : {M : Type 1} → statement M

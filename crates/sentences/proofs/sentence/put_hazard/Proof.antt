@@ -1,6 +1,7 @@
 -- `sentences::sentence::put_hazard` meets its contract: each arm writes the words that `hazardWords` has for it.
 use native.Mathlib.Omega.{arith}
-use Rattle.sentences.specs.Words.{ascii, filled}
+use Rattle.text.specs.Putting.{fitted}
+use Rattle.text.specs.Words.{ascii, filled}
 use Rattle.sentences.specs.Sentence.{hazardWords}
 use borrow.Author.Needs.{needs}
 use Rattle.sentences.proofs.sentence.put_hazard.Statement.{statement}
@@ -35,14 +36,14 @@ same-length c = search needs
 
 returns : tie.Need-returns
 unfolding hazardWords filled ascii
-returns c = (omega (arith, c .before .before .put-filled .ensures .0), rw (c .before .before .before .before .before .before .before .before .hazard .given .1, ← c .before .before .before .before .before .before .thread-of .ensures, ← c .before .before .before .before .before .slot-of .ensures) (c .before .before .put-filled .ensures .1))
+returns c = (omega (arith, c .before .before .put-filled .ensures .0), rw (c .before .before .before .before .before .before .before .before .hazard .given .1, ← c .before .before .before .before .before .before .thread-of .ensures, ← c .before .before .before .before .before .slot-of .ensures) (fitted (omega arith) (c .before .before .put-filled .ensures .1)))
 
 same-length-2 : tie.Need-same-length-2
 same-length-2 c = search needs
 
 returns-2 : tie.Need-returns-2
 unfolding hazardWords filled ascii
-returns-2 c = (omega (arith, c .before .before .put-filled2 .ensures .0), rw (c .before .before .before .before .before .enum-told .given .1) (c .before .before .put-filled2 .ensures .1))
+returns-2 c = (omega (arith, c .before .before .put-filled2 .ensures .0), rw (c .before .before .before .before .before .enum-told .given .1) (fitted (omega arith) (c .before .before .put-filled2 .ensures .1)))
 
 pub put-hazard-spec : {M : Type 1} → statement M
 put-hazard-spec =

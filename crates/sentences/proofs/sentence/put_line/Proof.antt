@@ -1,7 +1,7 @@
 -- `sentences::sentence::put_line` meets its contract: the words of the reason and then those of the hazard.
 use native.Mathlib.Omega.{arith}
-use Rattle.lines.proofs.Appending.{then}
-use Rattle.sentences.proofs.Nothing.{nothing}
+use Rattle.text.specs.Appending.{then}
+use Rattle.text.specs.Nothing.{nothing}
 use Rattle.sentences.specs.Sentence.{lineOf}
 use borrow.Author.Needs.{needs}
 use Rattle.sentences.proofs.sentence.put_line.Statement.{statement}

@@ -1,6 +1,7 @@
 -- `sentences::sentence::put_reason` meets its contract: each arm writes the words that `reasonWords` has for it.
 use native.Mathlib.Omega.{arith}
-use Rattle.sentences.specs.Words.{ascii, filled}
+use Rattle.text.specs.Putting.{fitted}
+use Rattle.text.specs.Words.{ascii, filled}
 use Rattle.sentences.specs.Sentence.{reasonWords}
 use borrow.Author.Needs.{needs}
 use Rattle.sentences.proofs.sentence.put_reason.Statement.{statement}
@@ -44,21 +45,21 @@ same-length c = search needs
 
 returns : tie.Need-returns
 unfolding reasonWords filled ascii
-returns c = (omega (arith, c .before .before .put-filled .ensures .0), rw (c .before .before .before .before .before .before .reason .given .1) (c .before .before .put-filled .ensures .1))
+returns c = (omega (arith, c .before .before .put-filled .ensures .0), rw (c .before .before .before .before .before .before .reason .given .1) (fitted (omega arith) (c .before .before .put-filled .ensures .1)))
 
 same-length-2 : tie.Need-same-length-2
 same-length-2 c = search needs
 
 returns-2 : tie.Need-returns-2
 unfolding reasonWords filled ascii
-returns-2 c = (omega (arith, c .before .before .put-filled2 .ensures .0), rw (c .before .before .before .before .before .before .reason2 .given .1) (c .before .before .put-filled2 .ensures .1))
+returns-2 c = (omega (arith, c .before .before .put-filled2 .ensures .0), rw (c .before .before .before .before .before .before .reason2 .given .1) (fitted (omega arith) (c .before .before .put-filled2 .ensures .1)))
 
 same-length-3 : tie.Need-same-length-3
 same-length-3 c = search needs
 
 returns-3 : tie.Need-returns-3
 unfolding reasonWords filled ascii
-returns-3 c = (omega (arith, c .before .before .put-filled3 .ensures .0), rw (c .before .before .before .before .before .before .reason3 .given .1) (c .before .before .put-filled3 .ensures .1))
+returns-3 c = (omega (arith, c .before .before .put-filled3 .ensures .0), rw (c .before .before .before .before .before .before .reason3 .given .1) (fitted (omega arith) (c .before .before .put-filled3 .ensures .1)))
 
 same-length-4 : tie.Need-same-length-4
 same-length-4 c = search needs
