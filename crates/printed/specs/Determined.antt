@@ -17,6 +17,8 @@ use Rattle.entries.specs.Sizes.{inRange}
 use Rattle.entries.specs.Phases.{isIdle, carriedBy, scansAt, returnsTo}
 use Rattle.entries.specs.Entries.{idleThread, emptySlot, isObject, sizesGood, linkGood, threadGood, slotGood, tagGood}
 use Rattle.entries.specs.Tally.{tallied}
+use Rattle.schedule.specs.Opening.{openedOf}
+use Rattle.schedule.specs.Going as going
 use Rattle.lines.specs.Lent as lines
 use Rattle.sentences.specs.Lent as sentences
 use Rattle.script.specs.Packing.{put, packOf}
@@ -45,6 +47,14 @@ tell-once input = lent-once _ _
 pub pack-once :
     (text : List ℕ) → LentOnce (λ buffer. packOf (length buffer) text .said) (λ buffer. put 0 (packOf (length buffer) text .bytes) buffer)
 pack-once text = lent-once _ _
+
+-- ---- schedule
+
+pub opened-once : Once openedOf
+opened-once = allowed-once _
+
+pub stands-next-once : (steps : ℕ) → Once (going.nextOf steps)
+stands-next-once steps = allowed-once _
 
 -- ---- entries
 

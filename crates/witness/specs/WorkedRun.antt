@@ -5,7 +5,7 @@ use mathlib.Core.List.{List, [], _∷_}
 use Rattle.lines.specs.Decimal.{digits, decimal}
 use Rattle.lines.specs.Line.{Line, numbers, end, joined, bytesOf, text}
 use Rattle.lines.specs.Run.{linesOf, textOf}
-use Rattle.printed.specs.Input.{inputOf}
+use Rattle.schedule.specs.Input.{inputOf}
 use Rattle.witness.specs.Printing.{quickLines, lines-quick, printing}
 
 -- sizes 2 1 1 2, then the 21 steps as records
