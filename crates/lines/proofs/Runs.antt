@@ -16,7 +16,8 @@ use Rattle.records.specs.declared.Read.the-variants.{Sizes, Step, End, Refused}
 use Rattle.records.specs.Reading.{readOf}
 use Rattle.records.specs.Rest.{restOf}
 use Rattle.lines.specs.Line.{Line, bytesOf, text}
-use Rattle.lines.specs.Run.{sizesOf, callOf, sizesLine, stepLine, stopLine, lastLine, linesAt, linesFrom, linesStarted, linesSized, linesFirst, linesOf, textOf}
+use Rattle.schedule.specs.Said.{sizesOf, callOf}
+use Rattle.lines.specs.Run.{sizesLine, stepLine, stopLine, lastLine, linesAt, linesFrom, linesStarted, linesSized, linesFirst, linesOf, textOf}
 
 pub one-line : (line : Line) → text (line ∷ []) ≡ bytesOf line
 unfolding text

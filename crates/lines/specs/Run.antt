@@ -4,9 +4,7 @@ use Prim.Native.Nat.{ℕ, zero, suc, _+_}
 use mathlib.Core.Bool.{cond}
 use mathlib.Core.List.{List, [], _∷_}
 use lib.Dec.{ltb}
-use Rattle.entries.specs.declared.Sizes.{Sizes}
 use Rattle.machine.specs.declared.State.{State}
-use Rattle.machine.specs.declared.Call.{Call}
 use Rattle.machine.specs.declared.Answer.{Answer}
 use Rattle.machine.specs.declared.Places.{Places}
 use Rattle.machine.specs.declared.Verdict.{Verdict}
@@ -21,16 +19,8 @@ use Rattle.records.specs.declared.Read.{Read}
 use Rattle.records.specs.declared.Read.the-variants as read
 use Rattle.records.specs.Reading.{readOf}
 use Rattle.records.specs.Rest.{restOf}
+use Rattle.schedule.specs.Said.{sizesOf, callOf}
 use Rattle.lines.specs.Line.{Line, numbers, end, stop, text}
-
--- what a record says, to the machine
-
-abbrev pub sizesOf : SizesRecord → Sizes
-sizesOf r = record { threads = r .threads; slots = r .slots; links = r .links; objects = r .objects }
-
-abbrev pub callOf : StepRecord → Call
-callOf r =
-    record { thread = r .thread; operation = r .operation; slot = r .slot; link = r .link; tag = r .tag }
 
 -- "First line: T H L N."
 unfoldable pub sizesLine : SizesRecord → Line

@@ -11,8 +11,9 @@ use records::reading::rest;
 ghost use mathlib.Core.Path.{_≡_};
 ghost use Prim.Native.Nat.{_+_, _≤_};
 ghost use lib.ListN.{length};
+ghost use Rattle.schedule.specs.Said.{callOf};
 ghost use Rattle.lines.specs.Line.{bytesOf, text};
-ghost use Rattle.lines.specs.Run.{callOf, lastLine, linesFrom};
+ghost use Rattle.lines.specs.Run.{lastLine, linesFrom};
 ghost use Rattle.text.specs.Written.{Appended};
 
 // What a step record says, to the machine.

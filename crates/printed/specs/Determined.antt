@@ -21,6 +21,8 @@ use Rattle.text.specs.Decimal.{decimal}
 use Rattle.text.specs.Fields.{joined}
 use Rattle.text.specs.Words.{filled}
 use Rattle.text.specs.Written.{placeAfter, bufferAfter}
+use Rattle.schedule.specs.Opening.{openedOf}
+use Rattle.schedule.specs.Going as going
 use Rattle.lines.specs.Lent as lines
 use Rattle.sentences.specs.Lent as sentences
 use Rattle.script.specs.Packing.{put, packOf}
@@ -63,6 +65,14 @@ put-line-once numbers place = lent-once _ _
 
 pub put-filled-once : (template numbers : List ℕ) → PutOnce (3 * length template) (filled template numbers)
 put-filled-once template numbers place = lent-once _ _
+
+-- ---- schedule
+
+pub opened-once : Once openedOf
+opened-once = allowed-once _
+
+pub stands-next-once : (steps : ℕ) → Once (going.nextOf steps)
+stands-next-once steps = allowed-once _
 
 -- ---- entries
 

@@ -1,5 +1,4 @@
 -- What has to be believed: what an input says, and what is printed of a run and counted in it. To read: Promise; Determined.
-pub mod Input
 pub mod Printed
 pub mod Counting
 pub mod Lemmas

@@ -11,7 +11,7 @@ use Rattle.promise.specs.History.{Machine, Event}
 use Rattle.promise.specs.Run.{eventsOf, endOf, state}
 use Rattle.lines.specs.Line.{Line, numbers, end, stop}
 use Rattle.sentences.specs.Told as told
-use Rattle.printed.specs.Input.{Ending, ended, stopped, Input, run, noRun}
+use Rattle.schedule.specs.Input.{Ending, ended, stopped, Input, run, noRun}
 
 -- "Per step: number from 1, thread, operation, answer or refusal number, a, b."
 unfoldable pub eventLine : ℕ → Event → Line

@@ -11,7 +11,7 @@ use Rattle.promise.specs.Promise.{Promised, promise}
 use Rattle.lines.specs.Line.{Line, numbers, end}
 use Rattle.lines.specs.Run.{linesOf}
 use Rattle.sentences.specs.Told as told
-use Rattle.printed.specs.Input.{Ending, run, inputOf}
+use Rattle.schedule.specs.Input.{Ending, run, inputOf}
 use Rattle.printed.specs.Printed.{linesOfInput, sentencesOfInput}
 use Rattle.printed.specs.Counting.{AddsUp}
 use Rattle.printed.specs.Lemmas.Lines as lines

@@ -18,7 +18,7 @@ use Rattle.records.specs.declared.Read.the-variants.{Sizes, Step, End, Refused}
 use Rattle.records.proofs.Read.{the-type}
 use Rattle.records.specs.Reading.{readOf}
 use Rattle.records.specs.Rest.{restOf}
-use Rattle.lines.specs.Run.{sizesOf, callOf}
+use Rattle.schedule.specs.Said.{sizesOf, callOf}
 use Rattle.lines.proofs.Runs.{Ends}
 use Rattle.sentences.specs.Ends as ends
 use Rattle.sentences.specs.Ends.{stopped, lastOf, endAt, endFrom, endStarted, endSized, endFirst, endOf}

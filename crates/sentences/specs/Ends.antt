@@ -14,7 +14,7 @@ use Rattle.records.specs.declared.Read.{Read}
 use Rattle.records.specs.declared.Read.the-variants as read
 use Rattle.records.specs.Reading.{readOf}
 use Rattle.records.specs.Rest.{restOf}
-use Rattle.lines.specs.Run.{sizesOf, callOf}
+use Rattle.schedule.specs.Said.{sizesOf, callOf}
 
 pub data End : Type 0 where
   ended : State → End

@@ -9,7 +9,7 @@ use records::reading::rest;
 ghost use mathlib.Core.Path.{_≡_};
 ghost use Prim.Native.Nat.{_≤_};
 ghost use lib.ListN.{length};
-ghost use Rattle.lines.specs.Run.{callOf};
+ghost use Rattle.schedule.specs.Said.{callOf};
 ghost use Rattle.text.specs.Written.{Appended};
 ghost use Rattle.sentences.specs.Ends.{isEnd, lastOf, endFrom};
 ghost use Rattle.sentences.specs.Told.{textAt};

@@ -17,7 +17,7 @@ use Rattle.lines.specs.Line.{Line, stop}
 use Rattle.lines.specs.Run.{linesOf}
 use Rattle.sentences.specs.Told as told
 use Rattle.promise.specs.Run.{endOf}
-use Rattle.printed.specs.Input.{Ending, ended, stopped, Input, run, noRun, callsAt, callsUpTo, after, endingAt, sized, begun, inputOf}
+use Rattle.schedule.specs.Input.{Ending, ended, stopped, Input, run, noRun, callsAt, callsUpTo, after, endingAt, sized, begun, inputOf}
 use Rattle.printed.specs.Printed.{eventLine, eventLines, endingLine, linesOfRun, linesOfInput, sentencesOfInput}
 use Rattle.printed.specs.Promise.{lines-are-events, sentences-of-state, sizes-in-range}
 use Rattle.witness.specs.Unchecked.{unchecked, same-events, same-end}

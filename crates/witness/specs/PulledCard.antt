@@ -9,7 +9,7 @@ use Rattle.reasons.specs.Reasons as reasons
 use Rattle.text.specs.Words.{ascii, filled}
 use Rattle.sentences.specs.Sentence.{threadOf, slotOf, guardWords, reasonWords, hazardWords, lineOf}
 use Rattle.sentences.specs.Told.{linesFrom, linesOf, textOf}
-use Rattle.printed.specs.Input.{inputOf}
+use Rattle.schedule.specs.Input.{inputOf}
 use Rattle.witness.specs.Printing.{quickSentences, sentences-quick, printing}
 
 -- sizes 2 1 1 2, then the first 16 steps as records

@@ -4,7 +4,7 @@ use mathlib.Core.Path.{_≡_, refl, subst⁻¹, fun-ext}
 use mathlib.Core.List.{List, [], _∷_, _++_, map}
 use Rattle.lines.specs.Line.{Line, numbers, end, stop}
 use Rattle.lines.specs.Run.{linesOf}
-use Rattle.printed.specs.Input.{inputOf}
+use Rattle.schedule.specs.Input.{inputOf}
 use Rattle.witness.specs.Printing.{quickLines, lines-quick, printing}
 
 pub record Row : Type 0 where

@@ -7,7 +7,7 @@ use Rattle.text.specs.Fields.{joined}
 use Rattle.text.specs.Words.{ascii}
 use Rattle.lines.specs.Line.{Line, numbers, end, bytesOf, text}
 use Rattle.lines.specs.Run.{linesOf, textOf}
-use Rattle.printed.specs.Input.{inputOf}
+use Rattle.schedule.specs.Input.{inputOf}
 use Rattle.witness.specs.Printing.{quickLines, lines-quick, printing}
 
 -- sizes 2 1 1 2, then the 21 steps as records

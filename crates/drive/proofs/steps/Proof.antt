@@ -1,43 +1,24 @@
--- `drive::steps` is safe and ends: the loop stays within the input, and what is left of it falls by ten a turn.
+-- `drive::steps` is safe and ends: at most 6,000 calls are taken.
 use Prim.Native.Nat.{_≤_, _-_}
 use native.Mathlib.Omega.{arith}
 use borrow.Author.Needs.{needs}
-use lib.ListN.{length}
 use Rattle.drive.proofs.steps.Statement.{statement}
 use Rattle.drive.proofs.steps.Tie as tie
 
 abbrev Inv-loop : tie.InvT-loop
-Inv-loop input sum₀ now-at₀ at₀ sum now-at at = at ≤ length input
+Inv-loop input sum₀ now-at₀ left₀ done₀ sum now-at left done = done ≤ 6000
 
 abbrev μ-loop : tie.MeasureT-loop
-μ-loop input sum₀ now-at₀ at₀ sum now-at at = length input - at
+μ-loop input sum₀ now-at₀ left₀ done₀ sum now-at left done = 6000 - done
 
 loop-holds : tie.Need-loop-holds Inv-loop μ-loop
 loop-holds c = omega arith
 
-sub-loop : tie.Need-sub-loop Inv-loop μ-loop
-sub-loop c = omega arith
-
-sub-read : tie.Need-sub-read Inv-loop μ-loop
-sub-read c = omega arith
-
-part-read-start : tie.Need-part-read-start Inv-loop μ-loop
-part-read-start c = search needs
-
-part-read-end : tie.Need-part-read-end Inv-loop μ-loop
-part-read-end c = search needs
-
-read-requires : tie.Need-read-requires Inv-loop μ-loop
-read-requires c κs = tt
+next-requires : tie.Need-next-requires Inv-loop μ-loop
+next-requires c κs = tt
 
 enum-known-found : tie.Need-enum-known-found Inv-loop μ-loop
 enum-known-found c = search needs
-
-returns : tie.Need-returns Inv-loop μ-loop
-returns c = search needs
-
-call-of-requires : tie.Need-call-of-requires Inv-loop μ-loop
-call-of-requires c κs = tt
 
 step-requires : tie.Need-step-requires Inv-loop μ-loop
 step-requires c κs = tt
@@ -45,14 +26,26 @@ step-requires c κs = tt
 mixed-answer-requires : tie.Need-mixed-answer-requires Inv-loop μ-loop
 mixed-answer-requires c κs = tt
 
-add-at : tie.Need-add-at Inv-loop μ-loop
-add-at c = omega arith
+rest-requires : tie.Need-rest-requires Inv-loop μ-loop
+rest-requires c κs = tt
+
+add-done : tie.Need-add-done Inv-loop μ-loop
+add-done c = omega arith
 
 loop-less : tie.Need-loop-less Inv-loop μ-loop
 loop-less c = omega arith
 
 loop-again : tie.Need-loop-again Inv-loop μ-loop
 loop-again c = omega arith
+
+next-requires-2 : tie.Need-next-requires-2 Inv-loop μ-loop
+next-requires-2 c κs = tt
+
+enum-told : tie.Need-enum-told Inv-loop μ-loop
+enum-told c = search needs
+
+returns : tie.Need-returns Inv-loop μ-loop
+returns c = search needs
 
 count-requires : tie.Need-count-requires Inv-loop μ-loop
 count-requires c κs = tt
@@ -70,19 +63,17 @@ steps-spec =
     Inv-loop
     μ-loop
     loop-holds
-    sub-loop
-    sub-read
-    part-read-start
-    part-read-end
-    read-requires
+    next-requires
     enum-known-found
-    returns
-    call-of-requires
     step-requires
     mixed-answer-requires
-    add-at
+    rest-requires
+    add-done
     loop-less
     loop-again
+    next-requires-2
+    enum-told
+    returns
     count-requires
     mixed-places-requires
     returns-2)

@@ -13,7 +13,7 @@ use Rattle.machine.specs.Step.{stepOf}
 use Rattle.promise.specs.Promise.{Promised, promise}
 use Rattle.lines.specs.Line.{Line, numbers, end}
 use Rattle.lines.specs.Run.{linesOf}
-use Rattle.printed.specs.Input.{Ending, ended, stopped, Input, run, noRun, inputOf}
+use Rattle.schedule.specs.Input.{Ending, ended, stopped, Input, run, noRun, inputOf}
 use Rattle.printed.specs.Printed.{eventLine, eventLines, endingLine, linesOfRun, linesOfInput}
 use Rattle.printed.specs.Counting.{fieldsOf, isRetireLine, isFreedLine, AddsUp}
 use Rattle.printed.specs.Lemmas.Lines.{lines-are-events}

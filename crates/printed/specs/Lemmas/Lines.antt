@@ -25,8 +25,9 @@ use Rattle.promise.specs.History.{historyBy, stateBy, eventOf, history, stateAf
 use Rattle.promise.specs.Run.{events, state}
 use Rattle.promise.specs.Moments.{always-sound}
 use Rattle.lines.specs.Line.{Line}
-use Rattle.lines.specs.Run.{sizesOf, callOf, sizesLine, stepLine, endLine, stopLine, lastLine, linesAt, linesFrom, linesStarted, linesSized, linesFirst, linesOf}
-use Rattle.printed.specs.Input.{callsAt, callsUpTo, after, endingAt, sized, begun, inputOf}
+use Rattle.schedule.specs.Said.{sizesOf, callOf}
+use Rattle.lines.specs.Run.{sizesLine, stepLine, endLine, stopLine, lastLine, linesAt, linesFrom, linesStarted, linesSized, linesFirst, linesOf}
+use Rattle.schedule.specs.Input.{callsAt, callsUpTo, after, endingAt, sized, begun, inputOf}
 use Rattle.printed.specs.Printed.{eventLine, eventLines, endingLine, linesOfRun, linesOfInput}
 
 -- the lines of these calls from a state on, after so many steps, and the line for what stands after them

@@ -11,8 +11,8 @@ use Rattle.records.specs.declared.Read.{Read}
 use Rattle.records.specs.declared.Read.the-variants as read
 use Rattle.records.specs.Reading.{readOf}
 use Rattle.records.specs.Rest.{restOf}
-use Rattle.lines.specs.Run.{sizesOf}
-use Rattle.printed.specs.Input.{Ending, Input, run, noRun, sized, begun, inputOf}
+use Rattle.schedule.specs.Said.{sizesOf}
+use Rattle.schedule.specs.Input.{Ending, Input, run, noRun, sized, begun, inputOf}
 
 abbrev Ranged : Input → Type 0
 Ranged (run z calls ending) = inRange z ≡ true

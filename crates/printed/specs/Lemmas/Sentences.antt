@@ -21,12 +21,12 @@ use Rattle.records.specs.Reading.{readOf}
 use Rattle.records.specs.Rest.{restOf}
 use Rattle.promise.specs.History.{stateBy, stateAfter}
 use Rattle.promise.specs.Run.{state}
-use Rattle.lines.specs.Run.{sizesOf, callOf}
+use Rattle.schedule.specs.Said.{sizesOf, callOf}
 use Rattle.sentences.specs.Ends.{End, isEnd, lastOf, endAt, endFrom, endStarted, endSized, endFirst, endOf}
 use Rattle.sentences.specs.Told.{textAt, textOf}
-use Rattle.printed.specs.Input.{callsAt, callsUpTo, after, endingAt, sized, begun, inputOf}
+use Rattle.schedule.specs.Input.{callsAt, callsUpTo, after, endingAt, sized, begun, inputOf}
 use Rattle.printed.specs.Printed.{sentencesOfInput}
-use Rattle.printed.specs.Input as input
+use Rattle.schedule.specs.Input as input
 
 -- the end after these calls from a state on, by what stands after them
 abbrev EndAfter : State → List ℕ → List Call → End

@@ -10,7 +10,7 @@ use Rattle.records.specs.declared.Read.{Read}
 use Rattle.records.specs.declared.Read.the-variants as read
 use Rattle.records.specs.Reading.{readOf}
 use Rattle.records.specs.Rest.{restOf}
-use Rattle.lines.specs.Run.{sizesOf, callOf}
+use Rattle.schedule.specs.Said.{sizesOf, callOf}
 
 -- a step and the calls after it; no call where the record is not a step
 unfoldable pub callsAt : Read → List Call → List Call
