@@ -1,14 +1,18 @@
 -- What the run answers, and what a lent buffer holds after it.
-use Prim.Native.Nat.{ℕ}
+use Prim.Native.Nat.{ℕ, _*_}
 use mathlib.Core.Bool.{cond}
 use mathlib.Core.List.{List, _++_}
 use lib.ListN.{length, drop}
 use lib.Dec.{ltb}
 use Rattle.lines.specs.Run.{textOf}
 
--- room for every run: 6,002 lines of at most 40 bytes
+-- room for every run, 240,080 bytes: 6,002 lines of at most 40
 abbrev pub roomForAll : ℕ
-roomForAll = 240080
+roomForAll = 6002 * 40
+
+-- the bytes that decide a run, 60,020: a sizes record, 6,000 steps and one record more, of 10 bytes each
+abbrev pub inputForAll : ℕ
+inputForAll = 6002 * 10
 
 -- how many bytes were written: the text's length, which is never 0, or 0 where the buffer is smaller than that room
 unfoldable pub answerOf : List ℕ → List ℕ → ℕ

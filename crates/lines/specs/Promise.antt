@@ -4,10 +4,11 @@ use mathlib.Core.Path.{_≡_}
 use mathlib.Core.List.{List}
 use lib.ListN.{length, take}
 use Rattle.lines.specs.Run.{textOf}
+use Rattle.lines.specs.Lent.{inputForAll}
 use Rattle.lines.specs.Lemmas.Enough as enough
 
--- 60,020 bytes, a sizes record, 6,000 steps and one record more, decide the text: what comes after them is never looked at.
-pub enough-read : (input : List ℕ) → textOf (take 60020 input) ≡ textOf input
+-- 60,020 bytes decide the text: what comes after them is never looked at.
+pub enough-read : (input : List ℕ) → textOf (take inputForAll input) ≡ textOf input
 enough-read = enough.enough-read
 
 -- A text has at least one line, so `run` answers 0 only where it wrote nothing.

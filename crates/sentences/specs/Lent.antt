@@ -1,14 +1,14 @@
 -- What `tell` answers, and what a lent buffer holds after it.
-use Prim.Native.Nat.{ℕ}
+use Prim.Native.Nat.{ℕ, _*_}
 use mathlib.Core.Bool.{cond}
 use mathlib.Core.List.{List, _++_}
 use lib.ListN.{length, drop}
 use lib.Dec.{ltb}
 use Rattle.sentences.specs.Told.{textOf}
 
--- room for every text: an object's number is a byte, so there are fewer than 256 lines, each of at most 480 bytes
+-- room for every text, 122,880 bytes: an object's number is a byte, so there are fewer than 256 lines, each of at most 480
 abbrev pub roomForAll : ℕ
-roomForAll = 122880
+roomForAll = 256 * 480
 
 -- how many bytes were written: the text's length, or 0 where the buffer is smaller than that room
 unfoldable pub answerOf : List ℕ → List ℕ → ℕ

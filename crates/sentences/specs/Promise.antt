@@ -4,6 +4,7 @@ use Prim.Native.Nat.{ℕ, _+_, _*_, _<_}
 use mathlib.Core.Path.{_≡_}
 use mathlib.Core.List.{List}
 use lib.ListN.{take}
+use Rattle.lines.specs.Lent.{inputForAll}
 use Rattle.sentences.specs.Sentence.{threadOf, slotOf}
 use Rattle.sentences.specs.Told.{textOf}
 use Rattle.sentences.specs.Lemmas.Positions as positions
@@ -16,5 +17,5 @@ pub position-told :
 position-told = positions.position-told
 
 -- The 60,020 bytes that decide the run's lines decide the sentences: what comes after them is never looked at.
-pub enough-read : (input : List ℕ) → textOf (take 60020 input) ≡ textOf input
+pub enough-read : (input : List ℕ) → textOf (take inputForAll input) ≡ textOf input
 enough-read = enough.enough-read

@@ -5,11 +5,12 @@ use reasons::why;
 ghost use Prim.Native.Nat.{_≤_};
 ghost use lib.ListN.{length};
 ghost use Rattle.text.specs.Written.{Appended};
+ghost use Rattle.sentences.specs.Lent.{roomForAll};
 ghost use Rattle.sentences.specs.Told.{linesOf};
 
 // The lines of objects 1 to N, at the front of a buffer that has room for them.
 pub(crate) fn put_lines(out: &mut [u8], state: State) -> usize
-    requires { ⌜ 122880 ≤ length (now out) ⌝ }
+    requires { ⌜ roomForAll ≤ length (now out) ⌝ }
     ensures { λ r. ⌜ Appended (now (out .entry)) 0 (linesOf state) (now (out .exit)) r ⌝ }
 {
     let objects = state.sizes.objects;

@@ -46,7 +46,7 @@ pub(crate) fn put_byte(space: &mut [u8], at: usize, byte: u8) {
 pub(crate) fn put_long(space: &mut [u8]) {
     put_sizes(space, 0, sizes(2, 1, 1, 2));
     let mut at = 10;
-    while at < 60020 {
+    while at < lines::INPUT {
         put_take(space, at, 0);
         at += 10;
     }

@@ -45,7 +45,7 @@ fn tell(name: &[u8], size: usize, text: &[u8]) {
 // Runs the first bytes of a space as an input, and tells how the text ends. Of a size beyond the space it prints nothing.
 pub(crate) fn show(name: &[u8], space: &[u8], size: usize) {
     // room for every run, as `lines::run` asks
-    let mut out = [0u8; 240080];
+    let mut out = [0u8; lines::ROOM];
     if size <= space.len() {
         let n = lines::run(&space[..size], &mut out);
         tell(name, size, &out[..n]);

@@ -23,6 +23,7 @@ use Rattle.text.specs.Fields.{joined}
 use Rattle.text.specs.Words.{ascii}
 use Rattle.lines.specs.Line.{Line, numbers, end, stop, bytesOf, text}
 use Rattle.lines.specs.Run.{sizesLine, stopLine, linesAt, linesFrom, linesStarted, linesSized, linesFirst, linesOf, textOf}
+use Rattle.lines.specs.Lent.{inputForAll}
 
 -- ten bytes are enough for a reading
 module _ (n : ℕ) (bs : List ℕ) (ten : 10 ≤ n) (long : n < length bs) where
@@ -106,8 +107,8 @@ module _ (n : ℕ) (all : n ≡ 10 * 6001) where
   text-same input =
       rw (read-same (10 + n) input (omega arith)) (ap {B = List ℕ} text (first-same input (readOf input) refl))
 
-pub enough-read : (input : List ℕ) → textOf (take 60020 input) ≡ textOf input
-enough-read input = text-same 60010 refl input
+pub enough-read : (input : List ℕ) → textOf (take inputForAll input) ≡ textOf input
+enough-read input = text-same (10 * 6001) refl input
 
 -- every line has its newline
 joined-some : (fields : List (List ℕ)) → 0 < length (joined fields)

@@ -12,6 +12,7 @@ use Rattle.records.specs.declared.Read.{Read}
 use Rattle.records.specs.declared.Read.the-variants as read
 use Rattle.records.specs.Reading.{readOf}
 use Rattle.records.specs.Rest.{restAfter, restOf}
+use Rattle.lines.specs.Lent.{inputForAll}
 use Rattle.lines.specs.Lemmas.Enough.{read-same, rest-same}
 use Rattle.sentences.specs.Ends.{End, endAt, endFrom, endStarted, endSized, endFirst, endOf}
 use Rattle.sentences.specs.Told.{textAt, textOf}
@@ -53,5 +54,5 @@ module _ (n : ℕ) (all : n ≡ 10 * 6001) where
   text-same input =
       rw (read-same (10 + n) input (omega arith)) (ap {B = List ℕ} textAt (first-same input (readOf input) refl))
 
-pub enough-read : (input : List ℕ) → textOf (take 60020 input) ≡ textOf input
-enough-read input = text-same 60010 refl input
+pub enough-read : (input : List ℕ) → textOf (take inputForAll input) ≡ textOf input
+enough-read input = text-same (10 * 6001) refl input
