@@ -117,14 +117,15 @@ module _ (text out₀ : List ℕ) (at number full : ℕ) (out : List ℕ) (g : G
       ∙ drop-drop (length added) full out₀
 
   -- on to the next line
-  pub going-on : (n : ℕ) (out′ : List ℕ) → out′ ≡ put full added out → tookOf (length out) full (lineOf text at (eqb full 0)) ≡ Full n → (next : ℕ) → next ≡ nextLine text at → at < next → Going text out₀ next (number + 1) n out′
+  pub going-on : (n : ℕ) (out′ : List ℕ) (took : Took) → out′ ≡ put full added out → took ≡ tookOf (length out) full (lineOf text at (eqb full 0)) → took ≡ Full n → (next : ℕ) → next ≡ nextLine text at → at < next → Going text out₀ next (number + 1) n out′
   unfolding goOn
-  going-on n out′ e took next next-is later =
+  going-on n out′ took e took-is is-full next next-is later =
+      let all : tookOf (length out) full (lineOf text at (eqb full 0)) ≡ Full n = sym took-is ∙ is-full in
       let sized : length (put full added out) ≡ length out = put-length full added out fits in
       let many = g .few in
       let room = fits in
       let same = g .size in
-      let n-is : n ≡ full + length added = full-then (length out) full n (lineOf text at (eqb full 0)) took in
+      let n-is : n ≡ full + length added = full-then (length out) full n (lineOf text at (eqb full 0)) all in
       rw (e, n-is)
       (record {
         size = omega arith;
@@ -132,16 +133,16 @@ module _ (text out₀ : List ℕ) (at number full : ℕ) (out : List ℕ) (g : G
         numbered = omega arith;
         few = omega arith;
         kept = kept-on;
-        coming = rw (put-front full added out fits, next-is) (rw took at line-coming);
+        coming = rw (put-front full added out fits, next-is) (rw all at line-coming);
       })
 
   -- a line that is wrong
-  pub going-wrong : (fault : Fault) (out′ : List ℕ) → out′ ≡ put full added out → tookOf (length out) full (lineOf text at (eqb full 0)) ≡ Bad fault → (packed.Bad number fault ≡ packOf (length out₀) text .said) × (Unit {0} × (out′ ≡ put 0 (packOf (length out₀) text .bytes) out₀))
+  pub going-wrong : (fault : Fault) (out′ : List ℕ) (took : Took) → out′ ≡ put full added out → took ≡ tookOf (length out) full (lineOf text at (eqb full 0)) → took ≡ Bad fault → (packed.Bad number fault ≡ packOf (length out₀) text .said) × (Unit {0} × (out′ ≡ put 0 (packOf (length out₀) text .bytes) out₀))
   unfolding goOn
-  going-wrong fault out′ e took =
+  going-wrong fault out′ took e took-is is-wrong =
       let sized : length (put full added out) ≡ length out = put-length full added out fits in
       let room = fits in
-      rw (e, line-coming, took) (
+      rw (e, line-coming, sym took-is ∙ is-wrong) (
         refl,
         (
           tt,

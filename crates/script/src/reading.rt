@@ -44,10 +44,7 @@ fn field(rest: Rest, found: Byte, place: Place, word: Word) -> Field
                 rest: Rest::Bad(Fault { why, place, word }),
             },
         },
-        Rest::Bad(fault) => Field {
-            value: 0,
-            rest: Rest::Bad(fault),
-        },
+        Rest::Bad(_) => Field { value: 0, rest },
     }
 }
 
@@ -69,10 +66,7 @@ fn tag_field(rest: Rest, found: Number, word: Word) -> Tag
                 }),
             },
         },
-        Rest::Bad(fault) => Tag {
-            value: 0,
-            rest: Rest::Bad(fault),
-        },
+        Rest::Bad(_) => Tag { value: 0, rest },
     }
 }
 

@@ -1,7 +1,7 @@
 -- `script::packing::pack` meets its contract. The invariant is `Going`: the records so far stand at the buffer's front, and what is to come
 -- is what the lines from here on give. The measure is what is left of the text.
 use Prim.Native.Nat.{_-_}
-use mathlib.Core.Path.{sym, _∙_}
+use mathlib.Core.Path.{_∙_}
 use native.Mathlib.Omega.{arith}
 use borrow.Author.Needs.{needs}
 use lib.ListN.{length}
@@ -34,7 +34,7 @@ returns : tie.Need-returns Inv-loop μ-loop
 returns c =
     let here = c .before .before .before .before .before .before .before .before .loop in
     let call = c .before .before .before .before .before .take-line in
-    going-wrong _ _ _ _ _ _ (here .inv) (c .before .before .before .before .before .before .before .loop-test .taken) _ _ (call .ensures .1) (sym (call .ensures .0) ∙ c .before .took2 .given .1)
+    going-wrong _ _ _ _ _ _ (here .inv) (c .before .before .before .before .before .before .before .loop-test .taken) _ _ _ (call .ensures .1) (call .ensures .0) (c .before .took2 .given .1)
 
 next-line-requires : tie.Need-next-line-requires Inv-loop μ-loop
 next-line-requires c κs = search needs
@@ -51,7 +51,7 @@ loop-again : tie.Need-loop-again Inv-loop μ-loop
 loop-again c =
     let here = c .before .before .before .before .before .before .before .before .before .loop in
     let call = c .before .before .before .before .before .before .take-line in
-    going-on _ _ _ _ _ _ (here .inv) (c .before .before .before .before .before .before .before .before .loop-test .taken) _ _ (call .ensures .1) (sym (call .ensures .0) ∙ c .before .before .took .given .1) _ (c .next-line .ensures .0) (c .next-line .ensures .1)
+    going-on _ _ _ _ _ _ (here .inv) (c .before .before .before .before .before .before .before .before .loop-test .taken) _ _ _ (call .ensures .1) (call .ensures .0) (c .before .before .took .given .1) _ (c .next-line .ensures .0) (c .next-line .ensures .1)
 
 fault-of-requires : tie.Need-fault-of-requires Inv-loop μ-loop
 fault-of-requires c κs = search needs

@@ -13,8 +13,8 @@ enum-known-found c = search needs
 enum-known-found-2 : tie.Need-enum-known-found-2
 enum-known-found-2 c = search needs
 
-enum-known-rest : tie.Need-enum-known-rest
-enum-known-rest c = search needs
+enum-told-2 : tie.Need-enum-told-2
+enum-told-2 c = search needs
 
 returns : tie.Need-returns
 unfolding tagFieldOf
@@ -26,7 +26,7 @@ returns-2 c = rw (c .before .before .before .enum-told .given .1, c .before .fou
 
 returns-3 : tie.Need-returns-3
 unfolding tagFieldOf
-returns-3 c = rw (c .before .rest .given .1)
+returns-3 c = rw (c .enum-told2 .given .1)
 
 pub tag-field-spec : {M : Type 1} → statement M
 tag-field-spec =
@@ -35,7 +35,7 @@ tag-field-spec =
     enum-told
     enum-known-found
     enum-known-found-2
-    enum-known-rest
+    enum-told-2
     returns
     returns-2
     returns-3)
