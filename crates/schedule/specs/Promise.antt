@@ -9,7 +9,7 @@ use Rattle.machine.specs.declared.Call.{Call}
 use Rattle.records.specs.Rest.{restOf}
 use Rattle.schedule.specs.Input.{callsUpTo, after, Ending, run, noRun, inputOf}
 use Rattle.schedule.specs.Opening.{opened, unopened, openedOf}
-use Rattle.schedule.specs.Asked.{foundOf, lastOf, foundIn}
+use Rattle.schedule.specs.Asked.{foundOf, foundIn}
 use Rattle.schedule.specs.Lemmas.Asked as asked
 use Rattle.schedule.specs.Lemmas.Begun as begun
 use Rattle.schedule.specs.Lemmas.Enough as enough
@@ -23,7 +23,7 @@ asking-finds = asked.asked
 pub run-found :
     (input : List ℕ) (z : Sizes) (calls : List Call) (ending : Ending) → inputOf input ≡ run z calls ending →
     (openedOf input ≡ opened z) ×
-    (foundOf (restOf input) ≡ record { calls = calls; last = lastOf ending; left = after (length calls) (restOf input) })
+    (foundOf (restOf input) ≡ record { calls = calls; ending = ending; left = after (length calls) (restOf input) })
 run-found = begun.run-found
 
 -- An input that says no run opens no machine, and stops with the same number.

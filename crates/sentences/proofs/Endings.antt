@@ -1,6 +1,6 @@
 -- How a run ends from a state and the bytes that are left, by what stands next there.
 use Prim.Native.Nat.{ℕ, _+_, _-_, _≤_}
-use mathlib.Core.Path.{_≡_, refl, sym, _∙_}
+use mathlib.Core.Path.{_≡_}
 use mathlib.Core.List.{List}
 use Rattle.machine.specs.declared.State.{State}
 use Rattle.machine.specs.declared.Started.{Started}

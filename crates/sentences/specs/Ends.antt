@@ -4,29 +4,26 @@ use mathlib.Core.List.{List}
 use Rattle.machine.specs.declared.State.{State}
 use Rattle.machine.specs.Fresh.{freshOf}
 use Rattle.promise.specs.History.{stateAfter}
-use Rattle.schedule.specs.declared.Next.{Next}
-use Rattle.schedule.specs.declared.Next.the-variants as next
 use Rattle.schedule.specs.Input as input
-use Rattle.schedule.specs.Asked.{Found, lastOf}
+use Rattle.schedule.specs.Asked.{Found}
 
 pub data End : Type 0 where
   ended : State → End
   stopped : End
 
--- in this state, by what stands next: a run comes to its end where the input does, and anything else stops it
-unfoldable pub endAt : State → Next → End
-endAt s next.End = ended s
-endAt s (next.Stop number) = stopped
-endAt s (next.Call c) = stopped
-
--- from this state on, by what is found
-unfoldable pub endFound : State → Found → End
-endFound s found = endAt (stateAfter s (found .calls)) (found .last)
+-- in this state
+unfoldable pub endAt : State → input.Ending → End
+endAt s input.ended = ended s
+endAt s (input.stopped number) = stopped
 
 -- an input that says no run stops at its first record
 unfoldable pub endIn : input.Input → End
-endIn (input.run z calls ending) = endAt (stateAfter (freshOf z) calls) (lastOf ending)
+endIn (input.run z calls ending) = endAt (stateAfter (freshOf z) calls) ending
 endIn (input.noRun number) = stopped
 
 unfoldable pub endOf : List ℕ → End
 endOf bytes = endIn (input.inputOf bytes)
+
+-- from this state on, by what is found
+unfoldable pub endFound : State → Found → End
+endFound s found = endAt (stateAfter s (found .calls)) (found .ending)

@@ -2,7 +2,6 @@
 use Prim.Native.Nat.{ℕ, suc, _+_, _-_, _≤_, _<_}
 use native.Mathlib.Omega.{arith}
 use mathlib.Core.Path.{_≡_, refl}
-use mathlib.Core.Bool.{true}
 use mathlib.Core.List.{List}
 use lib.ListN.{length}
 use lib.Dec.{ltb}
@@ -26,7 +25,7 @@ use Rattle.schedule.specs.Said.{sizesOf}
 use Rattle.schedule.specs.Input.{callsUpTo, after, endingAt, Input, run, noRun, sized, begun, inputOf}
 use Rattle.schedule.specs.Opening.{unopened, openedBy, openedOf}
 use Rattle.schedule.specs.Going.{nextAt, nextOf}
-use Rattle.schedule.specs.Asked.{Found, foundAt, foundFrom}
+use Rattle.schedule.specs.Asked.{foundAt, foundFrom}
 
 -- a call comes only while fewer than 6,000 were done
 step-room : (steps : ℕ) (c : Call) (found : Read) → nextAt steps found ≡ next.Call c → steps < 6000

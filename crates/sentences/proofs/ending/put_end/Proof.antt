@@ -1,6 +1,6 @@
 -- `sentences::ending::put_end` meets its contract. The invariant: the run ends from here as it ends from its first step, and the buffer is as it
 -- was.
-use Prim.Native.Nat.{_-_, _≤_, _<_}
+use Prim.Native.Nat.{_-_, _≤_}
 use mathlib.Core.Path.{_≡_, refl, sym, ap, _∙_}
 use native.Mathlib.Omega.{arith}
 use borrow.Author.Needs.{needs}
