@@ -10,33 +10,28 @@ use Rattle.schedule.specs.declared.Next.the-variants as next
 use Rattle.schedule.specs.Input.{after, Ending, ended, stopped, endingAt}
 use Rattle.schedule.specs.Going.{nextOf}
 
--- the calls, what stands after them, and the bytes from there on
+-- the calls, how they end, and the bytes from there on
 pub record Found : Type 0 where
   pub calls : List Call
-  pub last : Next
+  pub ending : Ending
   pub left : List ℕ
 
 unfoldable pub foundAt : Next → Found → List ℕ → Found
-foundAt (next.Call c) more left = record { calls = c ∷ more .calls; last = more .last; left = more .left }
-foundAt next.End more left = record { calls = []; last = next.End; left = left }
-foundAt (next.Stop number) more left = record { calls = []; last = next.Stop number; left = left }
+foundAt (next.Call c) more left = record { calls = c ∷ more .calls; ending = more .ending; left = more .left }
+foundAt next.End more left = record { calls = []; ending = ended; left = left }
+foundAt (next.Stop number) more left = record { calls = []; ending = stopped number; left = left }
 
 -- by at most so many questions, from so many steps on; the bytes after a call are those after its record
 unfoldable pub foundFrom : ℕ → ℕ → List ℕ → Found
-foundFrom zero steps left = record { calls = []; last = next.End; left = left }
+foundFrom zero steps left = record { calls = []; ending = ended; left = left }
 foundFrom (suc asked) steps left = foundAt (nextOf steps left) (foundFrom asked (steps + 1) (restOf left)) left
 
 -- from the bytes after the sizes record on: the 6,001st question is never answered with a call
 unfoldable pub foundOf : List ℕ → Found
 foundOf left = foundFrom 6001 0 left
 
--- what stands next where a run ends so
-unfoldable pub lastOf : Ending → Next
-lastOf ended = next.End
-lastOf (stopped number) = next.Stop number
-
 -- these calls at the front of the bytes, one record each, and what stands after them
 unfoldable pub foundIn : List ℕ → List Call → Found
 foundIn bytes calls =
     let left = after (length calls) bytes in
-    record { calls = calls; last = lastOf (endingAt (readOf left)); left = left }
+    record { calls = calls; ending = endingAt (readOf left); left = left }

@@ -16,14 +16,14 @@ use Rattle.records.specs.Rest.{restOf}
 use Rattle.schedule.specs.Said.{sizesOf}
 use Rattle.schedule.specs.Input.{after, Ending, Input, run, noRun, sized, begun, inputOf}
 use Rattle.schedule.specs.Opening.{opened, unopened, openedBy, openedOf}
-use Rattle.schedule.specs.Asked.{foundOf, lastOf, foundIn}
+use Rattle.schedule.specs.Asked.{foundOf, foundIn}
 use Rattle.schedule.specs.Lemmas.Asked.{asked}
 
 -- what the first record opens and what is found after it are what the input says
 abbrev Fits : Input → Started → List ℕ → Type 0
 Fits (run z calls ending) by rest =
     (by ≡ opened z) ×
-    (foundOf rest ≡ record { calls = calls; last = lastOf ending; left = after (length calls) rest })
+    (foundOf rest ≡ record { calls = calls; ending = ending; left = after (length calls) rest })
 Fits (noRun number) by rest = by ≡ unopened number
 
 sized-fits : (z : Sizes) (rest : List ℕ) → Fits (sized z rest) (startOf z) rest
@@ -45,7 +45,7 @@ fits input said e = rw e at (begun-fits (readOf input) (restOf input))
 pub run-found :
     (input : List ℕ) (z : Sizes) (calls : List Call) (ending : Ending) → inputOf input ≡ run z calls ending →
     (openedOf input ≡ opened z) ×
-    (foundOf (restOf input) ≡ record { calls = calls; last = lastOf ending; left = after (length calls) (restOf input) })
+    (foundOf (restOf input) ≡ record { calls = calls; ending = ending; left = after (length calls) (restOf input) })
 run-found input z calls ending e = fits input (run z calls ending) e
 
 pub none-opened : (input : List ℕ) (number : ℕ) → inputOf input ≡ noRun number → openedOf input ≡ unopened number

@@ -1,5 +1,4 @@
 -- `schedule::going::next` meets its contract: each arm knows what was read, and answers what `nextAt` has for it.
-use mathlib.Core.Path.{sym, _∙_}
 use borrow.Author.Needs.{needs}
 use borrow.Author.Tests.{lt-ltb, le-ltb}
 use Rattle.schedule.specs.Going.{nextAt, nextOf}
