@@ -3,14 +3,14 @@ use Prim.Native.Nat.{ℕ, _^_, _≤_, _<_}
 use mathlib.Core.Path.{_≡_}
 use native.Mathlib.Omega.{arith}
 use lib.ListN.{length, length-append}
+use Rattle.entries.specs.declared.Sizes.{Sizes}
+use Rattle.machine.specs.declared.Call.{Call}
 use Rattle.machine.specs.declared.Answer.{Answer}
 use Rattle.machine.specs.declared.Places.{Places}
 use Rattle.machine.specs.Answers.{numbers, numbersOf}
-use Rattle.records.specs.declared.SizesRecord.{SizesRecord}
-use Rattle.records.specs.declared.StepRecord.{StepRecord}
 use Rattle.text.specs.Decimal.{decimal}
 use Rattle.text.specs.Fields.{joined}
-use Rattle.text.specs.Words.{ascii}
+use Rattle.basics.specs.Ascii.{ascii}
 use Rattle.lines.specs.Line.{bytesOf}
 use Rattle.lines.specs.Run.{sizesLine, stepLine, endLine, stopLine}
 use Rattle.text.specs.Digits.{decimal-short, byte-short, word-short}
@@ -19,14 +19,14 @@ count-short : (n : ℕ) → n ≤ 6001 → length (decimal n) ≤ 4
 count-short n h = decimal-short 3 n (omega arith)
 
 pub sizes-short :
-    (r : SizesRecord) → r .threads < 2 ^ 8 → r .slots < 2 ^ 8 → r .links < 2 ^ 8 → r .objects < 2 ^ 8 →
+    (r : Sizes) → r .threads < 2 ^ 8 → r .slots < 2 ^ 8 → r .links < 2 ^ 8 → r .objects < 2 ^ 8 →
     length (bytesOf (sizesLine r)) ≤ 40
 unfolding bytesOf sizesLine joined
 sizes-short r t h l n =
     simp length-append (omega (arith, byte-short _ t, byte-short _ h, byte-short _ l, byte-short _ n))
 
 pub step-short :
-    (number : ℕ) (r : StepRecord) (answer : Answer) (k a b : ℕ) → numbersOf answer ≡ numbers k a b →
+    (number : ℕ) (r : Call) (answer : Answer) (k a b : ℕ) → numbersOf answer ≡ numbers k a b →
     number ≤ 6001 → r .thread < 2 ^ 8 → r .operation < 2 ^ 8 → k < 2 ^ 8 → a < 2 ^ 32 → b < 2 ^ 32 →
     length (bytesOf (stepLine number r answer)) ≤ 40
 unfolding bytesOf stepLine joined

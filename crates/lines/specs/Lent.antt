@@ -10,10 +10,6 @@ use Rattle.lines.specs.Run.{textOf}
 abbrev pub roomForAll : ℕ
 roomForAll = 6002 * 40
 
--- the bytes that decide a run, 60,020: a sizes record, 6,000 steps and one record more, of 10 bytes each
-abbrev pub inputForAll : ℕ
-inputForAll = 6002 * 10
-
 -- how many bytes were written: the text's length, which is never 0, or 0 where the buffer is smaller than that room
 unfoldable pub answerOf : List ℕ → List ℕ → ℕ
 answerOf input buffer = cond (ltb (length buffer) roomForAll) 0 (length (textOf input))

@@ -3,7 +3,7 @@ use Prim.Native.Nat.{ℕ}
 use mathlib.Core.List.{List, [], _∷_, _++_, map}
 use Rattle.text.specs.Decimal.{decimal}
 use Rattle.text.specs.Fields.{joined}
-use Rattle.text.specs.Words.{ascii}
+use Rattle.basics.specs.Ascii.{ascii}
 
 -- a line of numbers alone, or one that begins with `end` or `stop`
 pub data Line : Type 0 where

@@ -4,7 +4,7 @@ use mathlib.Core.Path.{_≡_}
 use mathlib.Core.List.{List}
 use lib.ListN.{length, take}
 use Rattle.lines.specs.Run.{textOf}
-use Rattle.lines.specs.Lent.{inputForAll}
+use Rattle.schedule.specs.Input.{inputForAll}
 use Rattle.lines.specs.Lemmas.Enough as enough
 
 -- 60,020 bytes decide the text: what comes after them is never looked at.

@@ -1,8 +1,8 @@
 // Writes each kind of line into a lent buffer.
+use entries::Sizes;
 use machine::Answer;
+use machine::Call;
 use machine::Places;
-use records::SizesRecord;
-use records::StepRecord;
 use text::bytes::put_bytes;
 use text::line::put_line;
 ghost use mathlib.Core.Path.{_≡_};
@@ -84,7 +84,7 @@ pub(crate) fn told_as(answer: Answer) -> Numbers
 }
 
 // "First line: T H L N."
-pub(crate) fn put_sizes(out: &mut [u8], at: usize, sizes: SizesRecord) -> usize
+pub(crate) fn put_sizes(out: &mut [u8], at: usize, sizes: Sizes) -> usize
     requires { ⌜ (at + 40 ≤ length (now out)) ⌝ }
     ensures { λ r. ⌜ (r ≤ at + 40) × Appended (now (out .entry)) at (bytesOf (sizesLine sizes)) (now (out .exit)) r ⌝ }
 {
@@ -98,13 +98,7 @@ pub(crate) fn put_sizes(out: &mut [u8], at: usize, sizes: SizesRecord) -> usize
 }
 
 // "Per step: number from 1, thread, operation, answer or refusal number, a, b."
-pub(crate) fn put_step(
-    out: &mut [u8],
-    at: usize,
-    number: u32,
-    step: StepRecord,
-    answer: Answer,
-) -> usize
+pub(crate) fn put_step(out: &mut [u8], at: usize, number: u32, step: Call, answer: Answer) -> usize
     requires { ⌜ (number ≤ 6001) × (at + 40 ≤ length (now out)) ⌝ }
     ensures { λ r. ⌜ (r ≤ at + 40) × Appended (now (out .entry)) at (bytesOf (stepLine number step answer)) (now (out .exit)) r ⌝ }
 {

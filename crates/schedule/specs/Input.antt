@@ -1,5 +1,5 @@
 -- What an input says, by its bytes alone: nothing here asks the machine. "one sizes record, then at most 6,000 steps"
-use Prim.Native.Nat.{ℕ, zero, suc}
+use Prim.Native.Nat.{ℕ, zero, suc, _*_}
 use mathlib.Core.Bool.{cond}
 use mathlib.Core.List.{List, [], _∷_}
 use lib.ListN.{length}
@@ -61,3 +61,7 @@ begun (read.Refused number) rest = noRun number
 
 unfoldable pub inputOf : List ℕ → Input
 inputOf bytes = begun (readOf bytes) (restOf bytes)
+
+-- the bytes that decide what an input says, 60,020: a sizes record, 6,000 steps and one record more, of 10 bytes each
+abbrev pub inputForAll : ℕ
+inputForAll = 6002 * 10

@@ -7,7 +7,7 @@ use lib.ListN.{length, take}
 use Rattle.entries.specs.declared.Sizes.{Sizes}
 use Rattle.machine.specs.declared.Call.{Call}
 use Rattle.records.specs.Rest.{restOf}
-use Rattle.schedule.specs.Input.{callsUpTo, after, Ending, run, noRun, inputOf}
+use Rattle.schedule.specs.Input.{callsUpTo, after, Ending, run, noRun, inputOf, inputForAll}
 use Rattle.schedule.specs.Opening.{opened, unopened, openedOf}
 use Rattle.schedule.specs.Asked.{foundOf, foundIn}
 use Rattle.schedule.specs.Lemmas.Asked as asked
@@ -30,6 +30,6 @@ run-found = begun.run-found
 pub none-opened : (input : List ℕ) (number : ℕ) → inputOf input ≡ noRun number → openedOf input ≡ unopened number
 none-opened = begun.none-opened
 
--- 60,020 bytes, a sizes record, 6,000 steps and one record more, decide what an input says: what comes after them is never looked at.
-pub enough-read : (input : List ℕ) → inputOf (take 60020 input) ≡ inputOf input
+-- 60,020 bytes decide what an input says: what comes after them is never looked at.
+pub enough-read : (input : List ℕ) → inputOf (take inputForAll input) ≡ inputOf input
 enough-read = enough.enough-read

@@ -4,7 +4,7 @@ use Prim.Native.Nat.{ℕ, _+_, _*_, _<_}
 use mathlib.Core.Path.{_≡_}
 use mathlib.Core.List.{List}
 use lib.ListN.{take}
-use Rattle.lines.specs.Lent.{inputForAll}
+use Rattle.schedule.specs.Input.{inputForAll}
 use Rattle.sentences.specs.Sentence.{threadOf, slotOf}
 use Rattle.sentences.specs.Told.{textOf}
 use Rattle.sentences.specs.Lemmas.Positions as positions

@@ -1,18 +1,13 @@
--- Words in ASCII, and numbers filled into them.
+-- Numbers filled into words.
 use Prim.Native.Nat.{ℕ}
-use Prim.Native.Char.{code}
-use Prim.Native.String.{String, [], _∷_}
+use Prim.Native.String.{String}
 use mathlib.Core.List as list
 use mathlib.Core.List.{List, _++_}
 use mathlib.Core.Bool.{Bool, cond}
 use lib.ListN.{getD, drop}
 use lib.Dec.{eqb}
+use Rattle.basics.specs.Ascii.{ascii}
 use Rattle.text.specs.Decimal.{decimal}
-
--- the bytes of a text, one for each character
-unfoldable pub ascii : String → List ℕ
-ascii [] = list.[]
-ascii (c ∷ text) = list._∷_ (code c) (ascii text)
 
 -- a byte where a number goes: `%`
 abbrev pub isPlace : ℕ → Bool

@@ -6,7 +6,8 @@ use mathlib.Core.List.{List, [], _∷_, _++_}
 use Rattle.basics.specs.First as first
 use Rattle.text.specs.Decimal.{digits, decimal}
 use Rattle.reasons.specs.Reasons as reasons
-use Rattle.text.specs.Words.{ascii, filled}
+use Rattle.basics.specs.Ascii.{ascii}
+use Rattle.text.specs.Words.{filled}
 use Rattle.sentences.specs.Sentence.{threadOf, slotOf, guardWords, reasonWords, hazardWords, lineOf}
 use Rattle.sentences.specs.Told.{linesFrom, linesOf, textOf}
 use Rattle.schedule.specs.Input.{inputOf}

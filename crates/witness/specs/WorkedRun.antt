@@ -4,7 +4,7 @@ use mathlib.Core.Path.{_≡_, refl, ap, _∙_}
 use mathlib.Core.List.{List, [], _∷_}
 use Rattle.text.specs.Decimal.{digits, decimal}
 use Rattle.text.specs.Fields.{joined}
-use Rattle.text.specs.Words.{ascii}
+use Rattle.basics.specs.Ascii.{ascii}
 use Rattle.lines.specs.Line.{Line, numbers, end, bytesOf, text}
 use Rattle.lines.specs.Run.{linesOf, textOf}
 use Rattle.schedule.specs.Input.{inputOf}

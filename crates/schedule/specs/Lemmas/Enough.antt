@@ -18,7 +18,7 @@ use Rattle.records.specs.Marks.{marked}
 use Rattle.records.specs.Reading.{sizesAt, stepAt, zerosAtEnd, readOf}
 use Rattle.records.specs.Rest.{restAfter, restOf}
 use Rattle.schedule.specs.Said.{sizesOf, callOf}
-use Rattle.schedule.specs.Input.{callsAt, callsUpTo, after, endingAt, run, noRun, sized, begun, inputOf}
+use Rattle.schedule.specs.Input.{callsAt, callsUpTo, after, endingAt, run, noRun, sized, begun, inputOf, inputForAll}
 
 -- ten bytes are enough for a reading
 module _ (n : ℕ) (bs : List ℕ) (ten : 10 ≤ n) (long : n < length bs) where
@@ -124,5 +124,5 @@ module _ (n : ℕ) (all : n ≡ 10 * 6001) where
   unfolding inputOf
   input-same input = rw (read-same (10 + n) input (omega arith)) (begun-same input (readOf input) refl)
 
-pub enough-read : (input : List ℕ) → inputOf (take 60020 input) ≡ inputOf input
-enough-read input = input-same 60010 refl input
+pub enough-read : (input : List ℕ) → inputOf (take inputForAll input) ≡ inputOf input
+enough-read input = input-same (10 * 6001) refl input

@@ -8,7 +8,7 @@ use lib.ListN.{length}
 use lib.Dec.{lit<}
 use Rattle.text.specs.Decimal.{decimal}
 use Rattle.text.specs.Fields.{joined}
-use Rattle.text.specs.Words.{ascii}
+use Rattle.basics.specs.Ascii.{ascii}
 use Rattle.lines.specs.Line.{bytesOf}
 use Rattle.lines.specs.Run.{endLine}
 use Rattle.text.specs.Appending.{up-to, first-room, second-room, both}

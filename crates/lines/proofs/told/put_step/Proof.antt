@@ -4,9 +4,10 @@ use mathlib.Core.Path.{_≡_}
 use mathlib.Core.List.{[], _∷_, map}
 use native.Mathlib.Omega.{arith}
 use lib.ListN.{length}
+use lib.Dec.{lit<}
+use Rattle.machine.specs.declared.Call.{Call}
 use Rattle.machine.specs.declared.Answer.{Answer}
 use Rattle.machine.specs.Answers.{numbers, numbersOf}
-use Rattle.records.specs.declared.StepRecord.{StepRecord}
 use Rattle.text.specs.Decimal.{decimal}
 use Rattle.text.specs.Fields.{joined}
 use Rattle.lines.specs.Line.{bytesOf}
@@ -20,7 +21,7 @@ use Rattle.lines.proofs.told.put_step.Tie as tie
 
 -- the line's bytes, with the answer's numbers
 line-bytes :
-    (number : ℕ) (step : StepRecord) (answer : Answer) (k a b : ℕ) →
+    (number : ℕ) (step : Call) (answer : Answer) (k a b : ℕ) →
     numbersOf answer ≡ numbers k a b →
     bytesOf (stepLine number step answer) ≡
     joined (map decimal (number ∷ step .thread ∷ step .operation ∷ k ∷ a ∷ b ∷ []))

@@ -2,7 +2,7 @@
 use native.Mathlib.Omega.{arith}
 use Rattle.text.specs.Appending.{then}
 use Rattle.text.specs.Putting.{fitted}
-use Rattle.text.specs.Words.{ascii}
+use Rattle.basics.specs.Ascii.{ascii}
 use Rattle.sentences.specs.Sentence.{reasonWords}
 use borrow.Author.Needs.{needs}
 use Rattle.sentences.proofs.sentence.put_handover.Statement.{statement}

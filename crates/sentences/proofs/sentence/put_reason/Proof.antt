@@ -1,7 +1,8 @@
 -- `sentences::sentence::put_reason` meets its contract: each arm writes the words that `reasonWords` has for it.
 use native.Mathlib.Omega.{arith}
 use Rattle.text.specs.Putting.{fitted}
-use Rattle.text.specs.Words.{ascii, filled}
+use Rattle.basics.specs.Ascii.{ascii}
+use Rattle.text.specs.Words.{filled}
 use Rattle.sentences.specs.Sentence.{reasonWords}
 use borrow.Author.Needs.{needs}
 use Rattle.sentences.proofs.sentence.put_reason.Statement.{statement}
