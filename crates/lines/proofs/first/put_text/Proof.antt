@@ -1,6 +1,6 @@
 -- `lines::first::put_text` meets its contract: the sizes' line and the steps' text after it, or the line that stops the run.
 use native.Mathlib.Omega.{arith}
-use Rattle.lines.proofs.Appending.{then}
+use Rattle.text.specs.Appending.{then}
 use Rattle.lines.proofs.Runs.{good-text, refused-text}
 use borrow.Author.Needs.{needs}
 use Rattle.lines.proofs.first.put_text.Statement.{statement}
