@@ -4,52 +4,26 @@ use mathlib.Core.Path.{_≡_, refl, sym, ap, _∙_}
 use mathlib.Core.Bool.{Bool, true, false, cond}
 use mathlib.Core.List.{List, [], _∷_, _++_}
 use native.Mathlib.Omega.{arith}
-use borrow.Author.Tests.{lt-ltb, le-ltb, eq-eqb, ne-eqb, ltb-false}
+use borrow.Author.Tests.{lt-ltb, le-ltb, eq-eqb, ne-eqb}
 use lib.ListN.{length, take, drop}
 use lib.Seq.{length-take-le, drop-drop}
 use lib.Dec.{ltb, eqb}
-use Rattle.records.specs.Bytes.{sizesBytes, stepBytes, lowFirst}
-use Rattle.script.specs.declared.Why.the-variants.{NoSizes, NoRoom}
+use Rattle.script.specs.declared.Why.the-variants.{NoSizes}
 use Rattle.script.specs.declared.Fault.{Fault}
 use Rattle.script.specs.declared.Line.{Line}
-use Rattle.script.specs.declared.Line.the-variants as line
 use Rattle.script.specs.declared.Took.{Took}
 use Rattle.script.specs.declared.Took.the-variants.{Full, Bad}
 use Rattle.script.specs.declared.Packed.{Packed}
 use Rattle.script.specs.declared.Packed.the-variants as packed
 use Rattle.script.specs.Lines.{lineOf}
-use Rattle.script.specs.Packing.{nextLine, faultOf, put, addedBy, tookOf, Outcome, finish, goOn, packFrom, packOf}
+use Rattle.script.specs.Packing.{nextLine, faultOf, put, addedBy, tookOf, finish, goOn, packFrom, packOf, Within}
+use Rattle.script.proofs.Added.{added-fits, full-then}
 use Rattle.script.proofs.Puts.{put-front, put-back, put-length, put-whole}
 
--- a record that was added fits, and the bytes that are full are then those before and its own
-
-fits-if : (room full : ℕ) (ten : List ℕ) (t : Bool) → length ten ≡ 10 → full ≤ room → (t ≡ false → 10 ≤ room - full) → full + length (cond t [] ten) ≤ room
-fits-if room full ten true e h g = omega arith
-fits-if room full ten false e h g = let more = g refl in omega arith
-
-pub added-fits : (room full : ℕ) (said : Line) → full ≤ room → full + length (addedBy room full said) ≤ room
-unfolding addedBy sizesBytes stepBytes lowFirst
-added-fits room full line.Nothing h = omega arith
-added-fits room full (line.Sizes r) h =
-    fits-if room full (sizesBytes r) (ltb (room - full) 10) refl h (ltb-false (room - full) 10)
-added-fits room full (line.Step r) h =
-    fits-if room full (stepBytes r) (ltb (room - full) 10) refl h (ltb-false (room - full) 10)
-added-fits room full (line.Bad fault) h = omega arith
-
-full-if : (room full n : ℕ) (ten : List ℕ) (t : Bool) → length ten ≡ 10 → cond t (Bad (faultOf NoRoom)) (Full (full + 10)) ≡ Full n → n ≡ full + length (cond t [] ten)
-full-if room full n ten true e g = let z : _≡_ {A = ℕ} 0 1 = cc in omega arith
-full-if room full n ten false e g =
-    let same : full + 10 ≡ n = cc in
-    omega arith
-
-pub full-then : (room full n : ℕ) (said : Line) → tookOf room full said ≡ Full n → n ≡ full + length (addedBy room full said)
-unfolding addedBy tookOf sizesBytes stepBytes lowFirst
-full-then room full n line.Nothing e =
-    let same : full ≡ n = cc in
-    omega arith
-full-then room full n (line.Sizes r) e = full-if room full n (sizesBytes r) (ltb (room - full) 10) refl e
-full-then room full n (line.Step r) e = full-if room full n (stepBytes r) (ltb (room - full) 10) refl e
-full-then room full n (line.Bad fault) e = let z : _≡_ {A = ℕ} 0 1 = cc in omega arith
+-- what `pack` promises of what it says and leaves
+abbrev Promised : List ℕ → List ℕ → List ℕ → Packed → Type 0
+Promised text out₀ out r =
+    (r ≡ packOf (length out₀) text .said) × (Within r (length out₀) × (out ≡ put 0 (packOf (length out₀) text .bytes) out₀))
 
 -- at the start of a line: the buffer's first bytes are the records so far and the others are as they were, and what is to come is what the
 -- lines from here on give
@@ -88,18 +62,24 @@ from-end zero room text at number done h = refl
 from-end (suc lines) room text at number done h = rw (le-ltb at (length text) h)
 
 module _ (text out₀ : List ℕ) (at number full : ℕ) (out : List ℕ) (g : Going text out₀ at number full out) (h : at < length text) where
-  -- the record of this line, and the place after it
+  -- what this line says, its record, and what is full after it
+  abbrev pub said : Line
+  said = lineOf text at (eqb full 0)
+
   abbrev pub added : List ℕ
-  added = addedBy (length out) full (lineOf text at (eqb full 0))
+  added = addedBy (length out) full said
+
+  abbrev pub after : Took
+  after = tookOf (length out) full said
 
   fits : full + length added ≤ length out
-  fits = added-fits (length out) full (lineOf text at (eqb full 0)) (g .within)
+  fits = added-fits (length out) full said (g .within)
 
   full-is : length (take full out) ≡ full
   full-is = length-take-le full out (g .within)
 
   -- what is to come, with this line taken
-  line-coming : packOf (length out₀) text ≡ goOn number (take full out ++ added) (packFrom (length text + 1 - (number + 1)) (length out₀) text (nextLine text at) (number + 1)) (tookOf (length out) full (lineOf text at (eqb full 0)))
+  line-coming : packOf (length out₀) text ≡ goOn number (take full out ++ added) (packFrom (length text + 1 - (number + 1)) (length out₀) text (nextLine text at) (number + 1)) after
   line-coming =
       let many = g .few in
       let one = g .numbered in
@@ -117,15 +97,15 @@ module _ (text out₀ : List ℕ) (at number full : ℕ) (out : List ℕ) (g : G
       ∙ drop-drop (length added) full out₀
 
   -- on to the next line
-  pub going-on : (n : ℕ) (out′ : List ℕ) (took : Took) → out′ ≡ put full added out → took ≡ tookOf (length out) full (lineOf text at (eqb full 0)) → took ≡ Full n → (next : ℕ) → next ≡ nextLine text at → at < next → Going text out₀ next (number + 1) n out′
+  pub going-on : (n : ℕ) (out′ : List ℕ) (took : Took) → out′ ≡ put full added out → took ≡ after → took ≡ Full n → (next : ℕ) → next ≡ nextLine text at → at < next → Going text out₀ next (number + 1) n out′
   unfolding goOn
   going-on n out′ took e took-is is-full next next-is later =
-      let all : tookOf (length out) full (lineOf text at (eqb full 0)) ≡ Full n = sym took-is ∙ is-full in
+      let all : after ≡ Full n = sym took-is ∙ is-full in
       let sized : length (put full added out) ≡ length out = put-length full added out fits in
       let many = g .few in
       let room = fits in
       let same = g .size in
-      let n-is : n ≡ full + length added = full-then (length out) full n (lineOf text at (eqb full 0)) all in
+      let n-is : n ≡ full + length added = full-then (length out) full n said all in
       rw (e, n-is)
       (record {
         size = omega arith;
@@ -137,7 +117,7 @@ module _ (text out₀ : List ℕ) (at number full : ℕ) (out : List ℕ) (g : G
       })
 
   -- a line that is wrong
-  pub going-wrong : (fault : Fault) (out′ : List ℕ) (took : Took) → out′ ≡ put full added out → took ≡ tookOf (length out) full (lineOf text at (eqb full 0)) → took ≡ Bad fault → (packed.Bad number fault ≡ packOf (length out₀) text .said) × (Unit {0} × (out′ ≡ put 0 (packOf (length out₀) text .bytes) out₀))
+  pub going-wrong : (fault : Fault) (out′ : List ℕ) (took : Took) → out′ ≡ put full added out → took ≡ after → took ≡ Bad fault → Promised text out₀ out′ (packed.Bad number fault)
   unfolding goOn
   going-wrong fault out′ took e took-is is-wrong =
       let sized : length (put full added out) ≡ length out = put-length full added out fits in
@@ -160,12 +140,12 @@ module _ (text out₀ : List ℕ) (at number full : ℕ) (out : List ℕ) (g : G
   unfolding finish
   end-bytes = rw end-coming (put-whole full out out₀ (g .within) (g .kept))
 
-  pub going-none : full ≡ 0 → (packed.Bad number (faultOf NoSizes) ≡ packOf (length out₀) text .said) × (Unit {0} × (out ≡ put 0 (packOf (length out₀) text .bytes) out₀))
+  pub going-none : full ≡ 0 → Promised text out₀ out (packed.Bad number (faultOf NoSizes))
   unfolding finish
   going-none e =
       (rw (end-coming, eq-eqb (length (take full out)) 0 (length-take-le full out (g .within) ∙ e)), (tt, end-bytes))
 
-  pub going-end : (full ≡ 0 → ⊥) → (packed.Done full ≡ packOf (length out₀) text .said) × ((full ≤ length out₀) × (out ≡ put 0 (packOf (length out₀) text .bytes) out₀))
+  pub going-end : (full ≡ 0 → ⊥) → Promised text out₀ out (packed.Done full)
   unfolding finish
   going-end e =
       let room = g .within in

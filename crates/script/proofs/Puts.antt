@@ -1,12 +1,13 @@
 -- A buffer after bytes were written over those from a place on.
 use Prim.Native.Nat.{ℕ, _+_, _-_, _≤_, _<_}
 use mathlib.Core.Path.{_≡_, refl, sym, ap, _∙_}
+use mathlib.Core.Bool.{Bool, true, false, cond}
 use mathlib.Core.List.{List, [], _∷_, _++_, append-assoc, append-nil}
 use native.Mathlib.Omega.{arith}
 use native.Mathlib.Nat.{add-zero, zero-add}
 use lib.ListN.{length, take, drop, length-append, length-drop, take-append-drop, drop-of-length-le}
 use lib.Seq.{take-at, drop-at, take-all, length-take-le, drop-drop}
-use borrow.Author.Tests.{le-ltb}
+use lib.Dec.{ltb}
 use Rattle.records.specs.Writing.{writtenOf}
 use Rattle.script.specs.Packing.{put}
 
@@ -42,10 +43,17 @@ put-whole n buffer other h e =
     rw (zero-add (length (take n buffer)), length-take-le n buffer h)
     (sym (take-append-drop n buffer) ∙ ap (λ (l : List ℕ). take n buffer ++ l) e)
 
--- ten bytes written into the part of a buffer from a place on
-pub put-part : (at : ℕ) (ten buffer : List ℕ) → length ten ≡ 10 → at + 10 ≤ length buffer → take at buffer ++ (writtenOf ten (take (length buffer - at) (drop at buffer)) ++ drop (length buffer - at) (drop at buffer)) ≡ put at ten buffer
-unfolding put writtenOf
+-- ten bytes written into the part of a buffer from a place on, where they have room
+
+put-if : (t : Bool) (at : ℕ) (ten buffer : List ℕ) → length ten ≡ 10 → take at buffer ++ cond t (drop at buffer) (ten ++ drop 10 (drop at buffer)) ≡ put at (cond t [] ten) buffer
+unfolding put
+put-if true at ten buffer e = rw (add-zero at)
+put-if false at ten buffer e = rw (drop-drop 10 at buffer, e)
+
+pub put-part : (at : ℕ) (ten buffer : List ℕ) → length ten ≡ 10 → at ≤ length buffer → take at buffer ++ (writtenOf ten (take (length buffer - at) (drop at buffer)) ++ drop (length buffer - at) (drop at buffer)) ≡ put at (cond (ltb (length buffer - at) 10) [] ten) buffer
+unfolding writtenOf
 put-part at ten buffer e h =
     let size : length (drop at buffer) ≡ length buffer - at = length-drop at buffer in
     rw
-    (take-all (length buffer - at) (drop at buffer) (omega arith), drop-of-length-le (drop at buffer) {i = length buffer - at} (omega arith), append-nil, le-ltb (length (drop at buffer)) 10 (omega arith), drop-drop 10 at buffer, e)
+    (take-all (length buffer - at) (drop at buffer) (omega arith), drop-of-length-le (drop at buffer) {i = length buffer - at} (omega arith), append-nil, size)
+    (put-if (ltb (length buffer - at) 10) at ten buffer e)

@@ -9,17 +9,14 @@ use crate::Why;
 use crate::Word;
 use crate::lines::line_at;
 use crate::words::past;
-use records::SizesRecord;
-use records::StepRecord;
 use records::writing::write_sizes;
 use records::writing::write_step;
 ghost use mathlib.Core.Path.{_≡_};
 ghost use Prim.Native.Nat.{_+_, _≤_, _<_};
 ghost use lib.ListN.{length};
 ghost use lib.Dec.{eqb};
-ghost use Rattle.records.specs.Bytes.{sizesBytes, stepBytes};
 ghost use Rattle.script.specs.Lines.{lineOf};
-ghost use Rattle.script.specs.Packing.{nextLine, faultOf, put, fullAfter, roomFor, addedBy, tookOf, packOf, Within};
+ghost use Rattle.script.specs.Packing.{nextLine, faultOf, put, fullAfter, addedBy, tookOf, packOf, Within};
 
 // A fault of no word.
 fn fault_of(why: Why) -> Fault
@@ -45,43 +42,36 @@ fn next_line(text: &[u8], at: usize) -> usize
     end
 }
 
-// Writes a sizes record after the bytes that are full.
-fn put_sizes(out: &mut [u8], full: usize, sizes: SizesRecord) -> Took
-    requires { ⌜ full ≤ length (now out) ⌝ }
-    ensures took { λ r. ⌜ r ≡ fullAfter (length (now (out .entry))) full ⌝ }
-    ensures bytes { λ _. ⌜ now (out .exit) ≡ put full (roomFor (length (now (out .entry))) full (sizesBytes sizes)) (now (out .entry)) ⌝ }
+// How many bytes are full after a record of ten bytes, of a buffer with so much room.
+fn full_after(room: usize, full: usize) -> Took
+    requires { ⌜ full ≤ room ⌝ }
+    ensures { λ r. ⌜ r ≡ fullAfter room full ⌝ }
 {
-    if out.len() - full < 10 {
+    if room - full < 10 {
         return Took::Bad(fault_of(Why::NoRoom));
     }
-    let _ = write_sizes(&mut out[full..], sizes);
     Took::Full(full + 10)
 }
 
-// Writes a step record after the bytes that are full.
-fn put_step(out: &mut [u8], full: usize, step: StepRecord) -> Took
-    requires { ⌜ full ≤ length (now out) ⌝ }
-    ensures took { λ r. ⌜ r ≡ fullAfter (length (now (out .entry))) full ⌝ }
-    ensures bytes { λ _. ⌜ now (out .exit) ≡ put full (roomFor (length (now (out .entry))) full (stepBytes step)) (now (out .entry)) ⌝ }
-{
-    if out.len() - full < 10 {
-        return Took::Bad(fault_of(Why::NoRoom));
-    }
-    let _ = write_step(&mut out[full..], step);
-    Took::Full(full + 10)
-}
-
-// Reads the line from `at` on, and writes its record, if it says one, after the bytes that are full.
+// Reads the line from `at` on, and writes its record, if it says one, after the bytes that are full. A record that has no room is not
+// written.
 fn take_line(text: &[u8], at: usize, out: &mut [u8], full: usize) -> Took
     requires { ⌜ full ≤ length (now out) ⌝ }
     ensures took { λ r. ⌜ r ≡ tookOf (length (now (out .entry))) full (lineOf (now (text .entry)) at (eqb full 0)) ⌝ }
     ensures bytes { λ _. ⌜ now (out .exit) ≡ put full (addedBy (length (now (out .entry))) full (lineOf (now (text .entry)) at (eqb full 0))) (now (out .entry)) ⌝ }
 {
+    let room = out.len();
     let said = line_at(text, at, full == 0);
     match said {
         Line::Nothing => Took::Full(full),
-        Line::Sizes(sizes) => put_sizes(out, full, sizes),
-        Line::Step(step) => put_step(out, full, step),
+        Line::Sizes(sizes) => {
+            let _ = write_sizes(&mut out[full..], sizes);
+            full_after(room, full)
+        }
+        Line::Step(step) => {
+            let _ = write_step(&mut out[full..], step);
+            full_after(room, full)
+        }
         Line::Bad(fault) => Took::Bad(fault),
     }
 }
