@@ -17,6 +17,11 @@ bytesOf (numbers ns) = joined (map decimal ns)
 bytesOf (end ns) = joined (ascii "end" ∷ map decimal ns)
 bytesOf (stop ns) = joined (ascii "stop" ∷ map decimal ns)
 
+-- Room for every line. The longest is a step's: at most 4 digits of its number, 3 each of thread, operation and answer, 10 each of a and b,
+-- and a byte after each of the six make 39.
+abbrev pub lineRoom : ℕ
+lineRoom = 40
+
 -- the bytes of lines one after the other
 unfoldable pub text : List Line → List ℕ
 text [] = []

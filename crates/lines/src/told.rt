@@ -9,7 +9,7 @@ ghost use mathlib.Core.Path.{_≡_};
 ghost use Prim.Native.Nat.{_+_, _≤_};
 ghost use lib.ListN.{length};
 ghost use Rattle.machine.specs.Answers.{numbers, numbersOf};
-ghost use Rattle.lines.specs.Line.{bytesOf};
+ghost use Rattle.lines.specs.Line.{bytesOf, lineRoom};
 ghost use Rattle.lines.specs.Run.{sizesLine, stepLine, endLine, stopLine};
 ghost use Rattle.text.specs.Written.{Appended};
 
@@ -85,8 +85,8 @@ pub(crate) fn told_as(answer: Answer) -> Numbers
 
 // "First line: T H L N."
 pub(crate) fn put_sizes(out: &mut [u8], at: usize, sizes: Sizes) -> usize
-    requires { ⌜ (at + 40 ≤ length (now out)) ⌝ }
-    ensures { λ r. ⌜ (r ≤ at + 40) × Appended (now (out .entry)) at (bytesOf (sizesLine sizes)) (now (out .exit)) r ⌝ }
+    requires { ⌜ (at + lineRoom ≤ length (now out)) ⌝ }
+    ensures { λ r. ⌜ (r ≤ at + lineRoom) × Appended (now (out .entry)) at (bytesOf (sizesLine sizes)) (now (out .exit)) r ⌝ }
 {
     let numbers = [
         sizes.threads as u32,
@@ -99,8 +99,8 @@ pub(crate) fn put_sizes(out: &mut [u8], at: usize, sizes: Sizes) -> usize
 
 // "Per step: number from 1, thread, operation, answer or refusal number, a, b."
 pub(crate) fn put_step(out: &mut [u8], at: usize, number: u32, step: Call, answer: Answer) -> usize
-    requires { ⌜ (number ≤ 6001) × (at + 40 ≤ length (now out)) ⌝ }
-    ensures { λ r. ⌜ (r ≤ at + 40) × Appended (now (out .entry)) at (bytesOf (stepLine number step answer)) (now (out .exit)) r ⌝ }
+    requires { ⌜ (number ≤ 6001) × (at + lineRoom ≤ length (now out)) ⌝ }
+    ensures { λ r. ⌜ (r ≤ at + lineRoom) × Appended (now (out .entry)) at (bytesOf (stepLine number step answer)) (now (out .exit)) r ⌝ }
 {
     let told = told_as(answer);
     let numbers = [
@@ -116,8 +116,8 @@ pub(crate) fn put_step(out: &mut [u8], at: usize, number: u32, step: Call, answe
 
 // "Last line: `end`, steps, then objects free, in links, in hands, in handovers, carried."
 pub(crate) fn put_end(out: &mut [u8], at: usize, steps: u32, places: Places) -> usize
-    requires { ⌜ (steps ≤ 6001) × (at + 40 ≤ length (now out)) ⌝ }
-    ensures { λ r. ⌜ (r ≤ at + 40) × Appended (now (out .entry)) at (bytesOf (endLine steps places)) (now (out .exit)) r ⌝ }
+    requires { ⌜ (steps ≤ 6001) × (at + lineRoom ≤ length (now out)) ⌝ }
+    ensures { λ r. ⌜ (r ≤ at + lineRoom) × Appended (now (out .entry)) at (bytesOf (endLine steps places)) (now (out .exit)) r ⌝ }
 {
     let next = put_bytes(out, at, b"end ");
     let numbers = [
@@ -133,8 +133,8 @@ pub(crate) fn put_end(out: &mut [u8], at: usize, steps: u32, places: Places) -> 
 
 // "`stop`, the count of good records before, and the number"
 pub(crate) fn put_stop(out: &mut [u8], at: usize, before: u32, number: u8) -> usize
-    requires { ⌜ (before ≤ 6001) × (at + 40 ≤ length (now out)) ⌝ }
-    ensures { λ r. ⌜ (r ≤ at + 40) × Appended (now (out .entry)) at (bytesOf (stopLine before number)) (now (out .exit)) r ⌝ }
+    requires { ⌜ (before ≤ 6001) × (at + lineRoom ≤ length (now out)) ⌝ }
+    ensures { λ r. ⌜ (r ≤ at + lineRoom) × Appended (now (out .entry)) at (bytesOf (stopLine before number)) (now (out .exit)) r ⌝ }
 {
     let next = put_bytes(out, at, b"stop ");
     let numbers = [before, number as u32];

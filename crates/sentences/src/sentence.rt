@@ -8,6 +8,7 @@ ghost use mathlib.Core.Path.{_≡_};
 ghost use Prim.Native.Nat.{_+_, _≤_};
 ghost use lib.ListN.{length};
 ghost use Rattle.text.specs.Written.{Appended};
+ghost use Rattle.sentences.specs.Lent.{guardRoom, reasonRoom, hazardRoom, lineRoom};
 ghost use Rattle.sentences.specs.Sentence.{threadOf, slotOf, guardWords, reasonWords, hazardWords, lineOf};
 
 // The thread whose slot is at a position, and which of its slots it is.
@@ -25,8 +26,8 @@ fn slot_of(slots: u8, position: u8) -> u8
 
 // "whether that slot's hazard is the object and protected, is the object and only published, or is something else"
 fn put_guard(out: &mut [u8], at: usize, guard: Guard) -> usize
-    requires { ⌜ at + 130 ≤ length (now out) ⌝ }
-    ensures { λ r. ⌜ (r ≤ at + 130) × Appended (now (out .entry)) at (guardWords guard) (now (out .exit)) r ⌝ }
+    requires { ⌜ at + guardRoom ≤ length (now out) ⌝ }
+    ensures { λ r. ⌜ (r ≤ at + guardRoom) × Appended (now (out .entry)) at (guardWords guard) (now (out .exit)) r ⌝ }
 {
     let none = [0u8; 4];
     match guard {
@@ -50,8 +51,8 @@ fn put_handover(
     position: u8,
     guard: Guard,
 ) -> usize
-    requires { ⌜ at + 340 ≤ length (now out) ⌝ }
-    ensures { λ r. ⌜ (r ≤ at + 340) × Appended (now (out .entry)) at (reasonWords slots object (Reason.Handover position guard)) (now (out .exit)) r ⌝ }
+    requires { ⌜ at + reasonRoom ≤ length (now out) ⌝ }
+    ensures { λ r. ⌜ (r ≤ at + reasonRoom) × Appended (now (out .entry)) at (reasonWords slots object (Reason.Handover position guard)) (now (out .exit)) r ⌝ }
 {
     let thread = thread_of(slots, position);
     let slot = slot_of(slots, position);
@@ -66,8 +67,8 @@ fn put_handover(
 
 // The one place that the object is in.
 fn put_reason(out: &mut [u8], at: usize, slots: u8, object: u8, reason: Reason) -> usize
-    requires { ⌜ at + 340 ≤ length (now out) ⌝ }
-    ensures { λ r. ⌜ (r ≤ at + 340) × Appended (now (out .entry)) at (reasonWords slots object reason) (now (out .exit)) r ⌝ }
+    requires { ⌜ at + reasonRoom ≤ length (now out) ⌝ }
+    ensures { λ r. ⌜ (r ≤ at + reasonRoom) × Appended (now (out .entry)) at (reasonWords slots object reason) (now (out .exit)) r ⌝ }
 {
     match reason {
         Reason::Link { link } => put_filled(
@@ -101,8 +102,8 @@ fn put_reason(out: &mut [u8], at: usize, slots: u8, object: u8, reason: Reason) 
 
 // "the first position in scan order that holds it as a hazard, or none", and the end of the line
 fn put_hazard(out: &mut [u8], at: usize, slots: u8, hazard: Hazard) -> usize
-    requires { ⌜ at + 140 ≤ length (now out) ⌝ }
-    ensures { λ r. ⌜ (r ≤ at + 140) × Appended (now (out .entry)) at (hazardWords slots hazard) (now (out .exit)) r ⌝ }
+    requires { ⌜ at + hazardRoom ≤ length (now out) ⌝ }
+    ensures { λ r. ⌜ (r ≤ at + hazardRoom) × Appended (now (out .entry)) at (hazardWords slots hazard) (now (out .exit)) r ⌝ }
 {
     match hazard {
         Hazard::At(position) => {
@@ -121,8 +122,8 @@ fn put_hazard(out: &mut [u8], at: usize, slots: u8, hazard: Hazard) -> usize
 
 // The line of an object; nothing where it is free.
 pub(crate) fn put_line(out: &mut [u8], at: usize, slots: u8, object: u8, told: Explained) -> usize
-    requires { ⌜ at + 480 ≤ length (now out) ⌝ }
-    ensures { λ r. ⌜ (r ≤ at + 480) × Appended (now (out .entry)) at (lineOf slots object told) (now (out .exit)) r ⌝ }
+    requires { ⌜ at + lineRoom ≤ length (now out) ⌝ }
+    ensures { λ r. ⌜ (r ≤ at + lineRoom) × Appended (now (out .entry)) at (lineOf slots object told) (now (out .exit)) r ⌝ }
 {
     match told {
         Explained::Kept { reason, hazard } => {

@@ -1,12 +1,13 @@
 -- A number as the ASCII digits that print it.
 use Prim.Native.Nat.{ℕ, zero, suc, _+_, _/_, _%_}
+use Prim.Native.Char.{code}
 use mathlib.Core.Bool.{cond}
 use mathlib.Core.List.{List, [], _∷_, _++_}
 use lib.Dec.{ltb}
 
 -- the digit that prints a number below 10
 abbrev pub digit : ℕ → ℕ
-digit n = 48 + n
+digit n = code "0" + n
 
 -- the last digits of a number, at most so many: its last digit, after those of a tenth of it where that is not 0
 unfoldable pub digits : ℕ → ℕ → List ℕ

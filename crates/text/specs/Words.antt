@@ -11,7 +11,7 @@ use Rattle.text.specs.Decimal.{decimal}
 
 -- a byte where a number goes: `%`
 abbrev pub isPlace : ℕ → Bool
-isPlace byte = eqb byte 37
+isPlace byte = eqb byte (code "%")
 
 -- what one byte of a template gives: the decimal digits of the next number for a `%`, 0 where none is left, and any other byte itself
 abbrev pub given : ℕ → List ℕ → List ℕ

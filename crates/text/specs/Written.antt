@@ -33,3 +33,7 @@ bufferAfter room bytes place buffer = cond (tooSmall room place buffer) buffer (
 pub record Put (room : ℕ) (bytes before : List ℕ) (place : ℕ) (after : List ℕ) (answer : ℕ) : Type 0 where
   pub next : answer ≡ placeAfter room bytes place before
   pub buffer : after ≡ bufferAfter room bytes place before
+
+-- the same where the room that it asks for is what the bytes take
+abbrev pub PutWhole : List ℕ → List ℕ → ℕ → List ℕ → ℕ → Type 0
+PutWhole bytes before place after answer = Put (length bytes) bytes before place after answer

@@ -2,7 +2,7 @@
 ghost use mathlib.Core.Path.{_≡_};
 ghost use Prim.Native.Nat.{_+_, _≤_};
 ghost use lib.ListN.{length};
-ghost use Rattle.text.specs.Written.{Appended, Put};
+ghost use Rattle.text.specs.Written.{Appended, PutWhole};
 
 fn copy(out: &mut [u8], at: usize, bytes: &[u8]) -> usize
     requires { ⌜ at + length (now bytes) ≤ length (now out) ⌝ }
@@ -20,7 +20,7 @@ fn copy(out: &mut [u8], at: usize, bytes: &[u8]) -> usize
 
 // The bytes, where there is room for them.
 pub fn put_bytes(out: &mut [u8], at: usize, bytes: &[u8]) -> usize
-    ensures { λ r. ⌜ Put (length (now (bytes .entry))) (now (bytes .entry)) (now (out .entry)) at (now (out .exit)) r ⌝ }
+    ensures { λ r. ⌜ PutWhole (now (bytes .entry)) (now (out .entry)) at (now (out .exit)) r ⌝ }
 {
     if out.len() < at {
         return at;

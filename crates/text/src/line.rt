@@ -8,7 +8,7 @@ ghost use mathlib.Core.List.{[], _∷_, _++_, map};
 ghost use lib.ListN.{length};
 ghost use Rattle.text.specs.Decimal.{decimal};
 ghost use Rattle.text.specs.Fields.{joined};
-ghost use Rattle.text.specs.Written.{Appended, Put};
+ghost use Rattle.text.specs.Written.{Appended, PutWhole};
 
 // Numbers as fields: a space after each but the last, a newline after the last.
 fn put_numbers(out: &mut [u8], at: usize, numbers: &[u32]) -> usize
@@ -27,7 +27,7 @@ fn put_numbers(out: &mut [u8], at: usize, numbers: &[u32]) -> usize
 
 // The line of these numbers, where there is room for it.
 pub fn put_line(out: &mut [u8], at: usize, numbers: &[u32]) -> usize
-    ensures { λ r. ⌜ Put (length (joined (map decimal (now (numbers .entry))))) (joined (map decimal (now (numbers .entry)))) (now (out .entry)) at (now (out .exit)) r ⌝ }
+    ensures { λ r. ⌜ PutWhole (joined (map decimal (now (numbers .entry)))) (now (out .entry)) at (now (out .exit)) r ⌝ }
 {
     if numbers.len() == 0 {
         return put_bytes(out, at, b"\n");
