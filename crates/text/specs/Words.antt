@@ -1,5 +1,6 @@
 -- Numbers filled into words.
 use Prim.Native.Nat.{ℕ}
+use Prim.Native.Char.{code}
 use Prim.Native.String.{String}
 use mathlib.Core.List as list
 use mathlib.Core.List.{List, _++_}
