@@ -1,7 +1,7 @@
 -- What is promised of a packed text: it is a schedule, one sizes record first and then steps alone. So the program that runs it never stops at
 -- a record that is cut short, has another mark or comes in the wrong place.
 use Prim.Native.Nat.{ℕ, zero, suc, _+_, _-_}
-use mathlib.Core.Path.{_≡_, refl, sym, _∙_}
+use mathlib.Core.Path.{_≡_, refl}
 use mathlib.Core.Bool.{Bool, true, false, cond}
 use mathlib.Core.List.{List, [], _∷_, _++_, append-nil}
 use mathlib.Core.Logic.{_⊎_, inl, inr, ⊎-elim}

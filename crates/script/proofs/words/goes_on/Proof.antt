@@ -1,6 +1,5 @@
 -- `script::words::goes_on` meets its contract: by the cases of both. An arm of several kinds knows only that the kind is one of them.
 use borrow.Author.Needs.{needs}
-use Prim.Native.Nat.{ℕ}
 use mathlib.Core.Path.{_≡_, refl}
 use mathlib.Core.Bool.{true, false}
 use mathlib.Core.List.{[], _∷_}
