@@ -7,12 +7,13 @@ use records::reading::rest;
 use schedule::opening::open;
 ghost use Prim.Native.Nat.{_≤_};
 ghost use lib.ListN.{length};
+ghost use Rattle.lines.specs.Lent.{roomForAll};
 ghost use Rattle.lines.specs.Run.{textOf};
 ghost use Rattle.text.specs.Written.{Appended};
 
 // The text of an input at the front of a buffer that has room for every run.
 pub(crate) fn put_text(input: &[u8], out: &mut [u8]) -> usize
-    requires { ⌜ 240080 ≤ length (now out) ⌝ }
+    requires { ⌜ roomForAll ≤ length (now out) ⌝ }
     ensures { λ r. ⌜ Appended (now (out .entry)) 0 (textOf (now (input .entry))) (now (out .exit)) r ⌝ }
 {
     let opened = open(input);

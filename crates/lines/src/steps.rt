@@ -9,13 +9,14 @@ use schedule::going::next;
 ghost use Prim.Native.Nat.{_≤_};
 ghost use lib.ListN.{length};
 ghost use Rattle.schedule.specs.Asked.{foundOf};
-ghost use Rattle.lines.specs.Line.{text};
+ghost use Rattle.lines.specs.Lent.{roomForAll};
+ghost use Rattle.lines.specs.Line.{lineRoom, text};
 ghost use Rattle.lines.specs.Run.{linesFound};
 ghost use Rattle.text.specs.Written.{Appended};
 
 // The lines from a state and the bytes that are left. "It takes each answer apart and prints it as numbers."
 pub(crate) fn put_steps(input: &[u8], out: &mut [u8], at: usize, state: State) -> usize
-    requires { ⌜ (at ≤ 40) × (240080 ≤ length (now out)) ⌝ }
+    requires { ⌜ (at ≤ lineRoom) × (roomForAll ≤ length (now out)) ⌝ }
     ensures { λ r. ⌜ Appended (now (out .entry)) at (text (linesFound 0 state (foundOf (now (input .entry))))) (now (out .exit)) r ⌝ }
 {
     let mut left = input;

@@ -9,11 +9,12 @@ ghost use lib.ListN.{length};
 ghost use Rattle.text.specs.Written.{Appended};
 ghost use Rattle.schedule.specs.Asked.{foundOf};
 ghost use Rattle.sentences.specs.Ends.{endFound};
+ghost use Rattle.sentences.specs.Lent.{roomForAll};
 ghost use Rattle.sentences.specs.Told.{textAt};
 
 // The sentences at the end of the run from a state and the bytes that are left; nothing where it stops.
 pub(crate) fn put_end(input: &[u8], out: &mut [u8], state: State) -> usize
-    requires { ⌜ 122880 ≤ length (now out) ⌝ }
+    requires { ⌜ roomForAll ≤ length (now out) ⌝ }
     ensures { λ r. ⌜ Appended (now (out .entry)) 0 (textAt (endFound state (foundOf (now (input .entry))))) (now (out .exit)) r ⌝ }
 {
     let mut left = input;

@@ -11,7 +11,7 @@ use Rattle.schedule.specs.Asked.{foundFrom, foundOf}
 use Rattle.schedule.specs.Lemmas.Turns.{call-room}
 use Rattle.sentences.specs.Ends.{endFound}
 use Rattle.sentences.specs.Told.{textAt}
-use Rattle.sentences.proofs.Nothing.{nothing}
+use Rattle.text.specs.Nothing.{nothing}
 use Rattle.sentences.proofs.Endings.{step-end, well-end, stop-end}
 use Rattle.sentences.proofs.ending.put_end.Statement.{statement}
 use Rattle.sentences.proofs.ending.put_end.Tie as tie
