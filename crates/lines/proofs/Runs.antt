@@ -14,7 +14,7 @@ use Rattle.schedule.specs.Going.{nextOf}
 use Rattle.schedule.specs.Opening.{openedOf}
 use Rattle.schedule.specs.Asked.{foundAt, foundFrom, foundOf, foundIn}
 use Rattle.schedule.specs.Promise.{asking-finds}
-use Rattle.schedule.specs.Lemmas.Turns.{found-next, good-says, refused-says}
+use Rattle.schedule.specs.Turns.{found-next, good-says, refused-says}
 use Rattle.lines.specs.Line.{Line, bytesOf, text}
 use Rattle.lines.specs.Run.{sizesLine, stepLine, endLine, stopLine, lastLine, linesFrom, linesIn, linesOf, textOf, linesFound}
 

@@ -1,4 +1,5 @@
 -- Lemmas nobody needs to read. What they lead to is stated in Promise and Enough.
+pub mod Refusing
 pub mod Guarded
 pub mod Waiting
 pub mod Same

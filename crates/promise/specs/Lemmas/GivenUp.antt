@@ -2,11 +2,10 @@
 use Prim.Native.Nat.{ℕ, suc, _-_, _<_, _≤_}
 use native.Mathlib.Omega.{arith}
 use mathlib.Core.Path.{_≡_, refl, sym, ap, _∙_, subst}
-use mathlib.Core.Bool.{Bool, true, false, _&&_, false≢true}
+use mathlib.Core.Bool.{true, false, false≢true}
 use mathlib.Core.List.{List, [], _∷_}
-use lib.ListN.{replicate, getD-replicate}
+use lib.ListN.{getD-replicate}
 use lib.Dec.{eqb}
-use borrow.Author.Tests.{ne-eqb}
 use Rattle.machine.specs.declared.State.{State}
 use Rattle.machine.specs.declared.Call.{Call}
 use Rattle.machine.specs.declared.Outcome.{Outcome}
@@ -18,7 +17,6 @@ use Rattle.entries.specs.declared.Phase.{Phase}
 use Rattle.entries.specs.declared.Phase.the-variants.{Idle, Look}
 use Rattle.basics.specs.Tests.{same-or-not}
 use Rattle.basics.specs.Functions.{put, put-same, put-other}
-use Rattle.basics.specs.Rows.{first-from}
 use Rattle.entries.specs.Sizes.{inRange, positions}
 use Rattle.entries.specs.Entries.{idleThread, emptySlot, withHazard, withHandover}
 use Rattle.entries.specs.Facts.{bounds}
@@ -29,26 +27,22 @@ use Rattle.pool.specs.Promise.{put-back}
 use Rattle.machine.specs.Parts.{slotAt, phaseOf, handOf, freeAt, withThread, withSlot, withLink, withPool}
 use Rattle.machine.specs.Sound.{Sound, limits, thread-long, slot-long, its-position}
 use Rattle.machine.specs.Answers.{numbersOf}
-use Rattle.machine.specs.Accepted.{refusals-high}
 use Rattle.machine.specs.Fresh.{freshOf}
 use Rattle.machine.specs.Step.{stepOf}
 use Rattle.laws.specs.OnePlace.{carried-not-free}
-use Rattle.laws.specs.Promise.{way, way-keeps-sound}
+use Rattle.laws.specs.Promise.{way}
 use Rattle.laws.specs.Ways.{own, named, Does, Way, refused, takes, begins, swaps, moves, reads, retires, clears, publishes, protects, finds-nothing, loads-again, finishes, drains, meets, passes, frees, leaves, displaces}
 use Rattle.promise.specs.Store.{Store}
-use Rattle.promise.specs.History.{historyBy, stateBy, eventOf, history, stateAfter, isRetire, isFreed}
+use Rattle.promise.specs.History.{historyBy, stateBy, history, stateAfter, isRetire, isFreed}
 use Rattle.promise.specs.Reading.{Reading, noTakes, noted, recordOf, readingAfter}
 use Rattle.promise.specs.Asked.{Memory}
 use Rattle.promise.specs.GivenUp.{GivenUp, noneGivenUp, givenBy, givenAfter, Waits, handed, carried, WaitsAs, SameGivenUp}
-use Rattle.promise.specs.Lemmas.Same.{Named, Live, record-some}
-use Rattle.promise.specs.Lemmas.Waits.{waits-most, waits-not-free, Apart, turned, passed, SameWaits, now-carried, only-thread, still-handed, handed-still, nothing-moved, handovers-same, exchanged}
+use Rattle.promise.specs.Lemmas.Refusing.{both-off, no-answer}
+use Rattle.promise.specs.Lemmas.Same.{Live, record-some}
+use Rattle.promise.specs.Lemmas.Waits.{waits-most, waits-not-free, turned, passed, SameWaits, now-carried, only-thread, still-handed, handed-still, nothing-moved, handovers-same, exchanged}
 use Rattle.promise.specs.Lemmas.Invariant.{Invariant}
 use Rattle.promise.specs.Lemmas.Begin.{start-invariant}
 use Rattle.promise.specs.Lemmas.Runs.{moment}
-
-both-off : (b : Bool) → (b && false) ≡ false
-both-off true = refl
-both-off false = refl
 
 -- an object that was not taken is read as before
 taken-other : (r : Reading) (o x : ℕ) → (x ≡ o → ⊥) → recordOf (noted r (Taken o)) x ≡ recordOf r x
@@ -210,9 +204,8 @@ module _ (s : State) (c : Call) (m : Memory) (r : Reading) (store : Store) (give
   pub given-step : {o : Outcome} → Way s c o → Sound (o .state) → After o
   unfolding givenBy isRetire isFreed numbersOf noted carriedBy
   given-step (refused {k = k} first) after =
-      let high = first-from (refusals-high s c) first in
-      let not-freed : eqb k 11 ≡ false = ne-eqb k 11 (λ e. omega arith) in
-      let not-begun : eqb k 2 ≡ false = ne-eqb k 2 (λ e. omega arith) in
+      let not-freed = no-answer s c first 11 (omega arith) in
+      let not-begun = no-answer s c first 2 (omega arith) in
       rw (not-freed, not-begun, both-off (eqb (c .operation) 5)) g
   given-step (takes {o = o} d empty next free) after =
       rw (d .operation)

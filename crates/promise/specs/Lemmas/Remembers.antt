@@ -1,11 +1,6 @@
 -- A thread that is in the middle of a protect is in the middle of the one that it last asked for: what the calls and their answers say of it is so.
-use Prim.Native.Nat.{ℕ, _<_, _≤_}
-use native.Mathlib.Omega.{arith}
-use mathlib.Core.Path.{_≡_, refl, sym, ap, _∙_, subst}
-use mathlib.Core.Bool.{Bool, true, false, _&&_, _||_}
-use lib.ListN.{length}
-use lib.Dec.{eqb, leb}
-use borrow.Author.Tests.{lt-leb}
+use Prim.Native.Nat.{ℕ, _<_}
+use mathlib.Core.Path.{_≡_, refl, ap, _∙_, subst}
 use Rattle.machine.specs.declared.State.{State}
 use Rattle.machine.specs.declared.Call.{Call}
 use Rattle.machine.specs.declared.Outcome.{Outcome}
@@ -15,17 +10,15 @@ use Rattle.entries.specs.declared.Phase.the-variants.{Idle}
 use Rattle.basics.specs.Tests.{clash}
 use Rattle.basics.specs.Lists.{at-set}
 use Rattle.basics.specs.Functions.{put, put-same, put-other}
-use Rattle.basics.specs.Rows.{first-from}
-use Rattle.entries.specs.Sizes.{within}
 use Rattle.entries.specs.Entries.{thread, idleThread}
-use Rattle.entries.specs.Phases.{Protect, none, into, protecting, carriedBy}
+use Rattle.entries.specs.Phases.{none, into, protecting}
 use Rattle.entries.specs.PhaseFacts.{returned-protects, carrying-protects}
-use Rattle.machine.specs.Parts.{phaseOf, handOf, withThread}
+use Rattle.machine.specs.Parts.{phaseOf, withThread}
 use Rattle.machine.specs.Sound.{Sound, thread-long}
 use Rattle.machine.specs.Answers.{numbersOf}
-use Rattle.machine.specs.Accepted.{refusals-high}
 use Rattle.laws.specs.Ways.{Does, Way, refused, takes, begins, swaps, moves, reads, retires, clears, publishes, protects, finds-nothing, loads-again, finishes, drains, meets, passes, frees, leaves, displaces}
 use Rattle.promise.specs.Asked.{Memory, remembered}
+use Rattle.promise.specs.Lemmas.Refusing.{not-accepted}
 
 -- the protect in this phase, if any, is the one remembered
 abbrev pub Fits : Phase → ℕ → ℕ → ℕ → Type 0
@@ -37,10 +30,6 @@ pub record Remembers (s : State) (m : Memory) : Type 0 where
 -- a phase that protects nothing fits whatever is remembered
 pub nothing-fits : (phase : Phase) (begun slot link : ℕ) → protecting phase ≡ none → Fits phase begun slot link
 nothing-fits phase begun slot link e inside link′ e′ = clash (cc)
-
-both-off : (b : Bool) → (b && false) ≡ false
-both-off true = refl
-both-off false = refl
 
 abbrev after : Memory → Call → Outcome → Memory
 after m c o = remembered m (record { call = c; answer = o .answer })
@@ -84,9 +73,7 @@ module _ (s : State) (c : Call) (m : Memory) (h : Sound s) (v : Remembers s m) w
   pub remembers-kept : {o : Outcome} → Way s c o → Remembers (o .state) (after m c o)
   unfolding remembered numbersOf protecting
   remembers-kept (refused {k = k} first) =
-      let high = first-from (refusals-high s c) first in
-      let far : leb k 11 ≡ false = lt-leb k 11 high in
-      rw (far, both-off (leb 1 k)) v
+      rw (not-accepted s c first) v
   remembers-kept (takes d empty next free) = rw (d .operation) (kept d _ refl refl _ _ (v .fits t (d .thread)))
   remembers-kept (begins d idle slot link read) =
       rw (d .operation)

@@ -1,31 +1,26 @@
 -- Whichever way a call goes, it matches what the store does: the listed call whole, or nothing.
-use Prim.Native.Nat.{ℕ, suc, _-_, _<_, _≤_}
+use Prim.Native.Nat.{ℕ, suc, _-_, _<_}
 use native.Mathlib.Omega.{arith}
 use mathlib.Core.Path.{_≡_, refl, sym, ap, _∙_, subst}
-use mathlib.Core.Bool.{Bool, true, false, cond, _&&_, false≢true}
-use mathlib.Core.List.{[]}
+use mathlib.Core.Bool.{Bool, true, false, cond, false≢true}
 use lib.ListN.{length}
-use lib.Dec.{eqb, leb}
-use borrow.Author.Tests.{eq-eqb, ne-eqb, lt-leb}
+use lib.Dec.{eqb}
+use borrow.Author.Tests.{eq-eqb, ne-eqb}
 use Rattle.machine.specs.declared.State.{State}
 use Rattle.machine.specs.declared.Call.{Call}
 use Rattle.machine.specs.declared.Outcome.{Outcome}
-use Rattle.entries.specs.declared.Slot.{Slot}
 use Rattle.entries.specs.declared.Phase.{Phase}
 use Rattle.entries.specs.declared.Phase.the-variants.{Published}
 use Rattle.basics.specs.Tests.{same-or-not}
 use Rattle.basics.specs.Functions.{put, put-same, put-other}
-use Rattle.basics.specs.Rows.{first-from}
 use Rattle.entries.specs.Sizes.{positions}
 use Rattle.entries.specs.Entries.{withHazard, withHandover}
 use Rattle.entries.specs.Phases.{protecting}
 use Rattle.pool.specs.Promise.{free-is-object, taken-out, put-back}
-use Rattle.machine.specs.Parts.{linkAt, slotAt, handOf, phaseOf, positionOf, tagOf, withThread, withSlot, withLink, become}
+use Rattle.machine.specs.Parts.{linkAt, slotAt, handOf, phaseOf, positionOf, tagOf, withThread, withSlot, become}
 use Rattle.machine.specs.Sound.{limits, thread-long, link-long, slot-long, tag-long, its-position, marked-object, its-slot}
 use Rattle.machine.specs.Answers.{numbersOf, numbers}
-use Rattle.machine.specs.declared.Answer.the-variants.{Refused}
-use Rattle.machine.specs.Calls.{outcome, expected}
-use Rattle.machine.specs.Accepted.{refusals-high}
+use Rattle.machine.specs.Calls.{expected}
 use Rattle.laws.specs.OnePlace.{carried-not-free}
 use Rattle.laws.specs.Ways.{named, Does, NamesProtected, Way, refused, takes, begins, swaps, moves, reads, retires, clears, publishes, protects, finds-nothing, loads-again, finishes, drains, meets, passes, frees, leaves, displaces}
 use Rattle.promise.specs.Store.{Store, take, protect, swap, read, retire, clear, says, next, tagOfRecord}
@@ -33,13 +28,10 @@ use Rattle.promise.specs.Reading.{Reading, noted, renamed, recordOf}
 use Rattle.promise.specs.Asked.{Memory}
 use Rattle.promise.specs.Listing.{listedOf, atOnce}
 use Rattle.promise.specs.Holdings.{SameHoldings}
+use Rattle.promise.specs.Lemmas.Refusing.{not-accepted}
 use Rattle.promise.specs.Lemmas.Same.{Held, Same, record-none, record-some, compare-records, compare-none, record-tag, named-freed, same-hand, same-link, same-slot, same-pool}
 use Rattle.promise.specs.Lemmas.SameTake.{taking, held-same, taken-record, named-taken, holdings-taken}
 use Rattle.promise.specs.Lemmas.Invariant.{Invariant, Matches, one-listed, none-listed, links-held, hands-held, slots-held}
-
-both-off : (b : Bool) → (b && false) ≡ false
-both-off true = refl
-both-off false = refl
 
 module _ (s : State) (c : Call) (m : Memory) (r : Reading) (store : Store) (v : Invariant s m r store) where
   abbrev t : ℕ
@@ -149,9 +141,7 @@ module _ (s : State) (c : Call) (m : Memory) (r : Reading) (store : Store) (v : 
   pub matches : {o : Outcome} → Way s c o → Matches s c m r store o
   unfolding listedOf atOnce numbersOf noted renamed says next
   matches (refused {k = k} first) =
-      let high = first-from (refusals-high s c) first in
-      let far : leb k 11 ≡ false = lt-leb k 11 high in
-      none-listed s c m r store _ (rw (far, both-off (leb 1 k))) (v .same)
+      none-listed s c m r store _ (rw (not-accepted s c first)) (v .same)
   matches (takes {o = o} d empty is free) =
       let n = s .sizes .objects in
       let ranged = v .sound .ranged in

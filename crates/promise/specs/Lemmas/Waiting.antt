@@ -3,8 +3,8 @@
 use Prim.Native.Nat.{ℕ, _+_, _*_, _<_, _≤_}
 use native.Mathlib.Omega.{arith}
 use mathlib.Core.Path.{_≡_, refl, sym, ap, _∙_}
-use mathlib.Core.Bool.{Bool, true, false, _&&_}
-use lib.ListN.{length, getD, List·getD-eq-default}
+use mathlib.Core.Bool.{true, false}
+use lib.ListN.{length, List·getD-eq-default}
 use lib.Dec.{eqb, ltb}
 use borrow.Author.Tests.{ne-eqb, ltb-true, ltb-false}
 use Rattle.machine.specs.declared.State.{State}
@@ -16,7 +16,6 @@ use Rattle.entries.specs.declared.Phase.{Phase}
 use Rattle.entries.specs.declared.Phase.the-variants.{Idle, Loaded, Published, Draining, Look}
 use Rattle.basics.specs.Tests.{by-test}
 use Rattle.basics.specs.Counts.{bit, how-many-set, how-many-under}
-use Rattle.basics.specs.Rows.{first-from}
 use Rattle.entries.specs.Sizes.{positions}
 use Rattle.entries.specs.Phases.{carriedBy}
 use Rattle.entries.specs.PhaseFacts.{idle-carries}
@@ -27,10 +26,10 @@ use Rattle.machine.specs.Parts.{slotAt, threadAt, handOf, phaseOf, withLink, wi
 use Rattle.machine.specs.Sound.{Ranged, Sound, thread-long, slot-long, its-position}
 use Rattle.machine.specs.Answers.{numbersOf}
 use Rattle.machine.specs.Count.{fivePlaces}
-use Rattle.machine.specs.Accepted.{refusals-high}
 use Rattle.laws.specs.Ways.{own, named, Does, Way, refused, takes, begins, swaps, moves, reads, retires, clears, publishes, protects, finds-nothing, loads-again, finishes, drains, meets, passes, frees, leaves, displaces}
 use Rattle.promise.specs.History.{Event, isRetire, isFreed}
 use Rattle.promise.specs.Holdings.{waiting}
+use Rattle.promise.specs.Lemmas.Refusing.{both-off, no-answer}
 
 -- one that is carried, or stands in a handover
 one : ℕ → ℕ
@@ -62,10 +61,6 @@ module _ (s : State) where
       let law = how-many-set (λ (x : Slot). isObject (x .handover)) (s .slots) p slot emptySlot long in
       omega arith
 
-both-off : (b : Bool) → (b && false) ≡ false
-both-off true = refl
-both-off false = refl
-
 abbrev event : State → Call → Outcome → Event
 event s c o = record { call = c; answer = o .answer }
 
@@ -96,9 +91,8 @@ module _ (s : State) (c : Call) (h : Sound s) where
   pub waiting-kept : {o : Outcome} → Way s c o → Still s c o
   unfolding isRetire isFreed numbersOf carriedBy bit
   waiting-kept (refused {k = k} first) =
-      let high = first-from (refusals-high s c) first in
-      let not-freed : eqb k 11 ≡ false = ne-eqb k 11 (λ e. omega arith) in
-      let not-begun : eqb k 2 ≡ false = ne-eqb k 2 (λ e. omega arith) in
+      let not-freed = no-answer s c first 11 (omega arith) in
+      let not-begun = no-answer s c first 2 (omega arith) in
       simp (not-freed, not-begun, both-off (eqb (c .operation) 5))
   waiting-kept (takes {o = o} d empty next free) =
       let law = thread-waits d (withPool s (takenOut (s .pool) o) o (c .tag)) refl refl o (phaseOf s t) in

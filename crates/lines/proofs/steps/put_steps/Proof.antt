@@ -8,7 +8,7 @@ use borrow.Author.Needs.{needs}
 use Rattle.schedule.specs.declared.Next.the-variants.{Call}
 use Rattle.schedule.specs.Going.{nextOf}
 use Rattle.schedule.specs.Asked.{foundFrom, foundOf}
-use Rattle.schedule.specs.Lemmas.Turns.{call-room}
+use Rattle.schedule.specs.Turns.{call-room}
 use Rattle.lines.specs.Line.{bytesOf, text}
 use Rattle.lines.specs.Run.{stepLine, linesFound}
 use Rattle.text.specs.Appending.{Leads, leads-start, leads-on, leads-end}

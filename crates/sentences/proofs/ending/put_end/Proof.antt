@@ -8,7 +8,7 @@ use lib.ListN.{length}
 use Rattle.schedule.specs.declared.Next.the-variants.{Call}
 use Rattle.schedule.specs.Going.{nextOf}
 use Rattle.schedule.specs.Asked.{foundFrom, foundOf}
-use Rattle.schedule.specs.Lemmas.Turns.{call-room}
+use Rattle.schedule.specs.Turns.{call-room}
 use Rattle.sentences.specs.Ends.{endFound}
 use Rattle.sentences.specs.Told.{textAt}
 use Rattle.text.specs.Nothing.{nothing}
