@@ -25,24 +25,21 @@ pub(crate) fn put_steps(input: &[u8], out: &mut [u8], at: usize, state: State) -
     let mut steps: u32 = 0;
     loop {
         let found = next(left, steps);
-        match found {
-            Next::Call(call) => {
-                let done = now_at.step(call);
-                let answer = done.answer;
-                place = put_step(out, place, steps + 1, call, answer);
-                now_at = done.state;
-                let after = rest(left);
-                left = after;
-                steps += 1;
-            }
-            Next::End => {
+        // what is no call ends the run: a refusal goes to the stop line, the end of the input to the end line
+        let Next::Call(call) = found else {
+            let Next::Stop(number) = found else {
                 let counted = now_at.count();
                 let places = counted.places;
                 return put_end(out, place, steps, places);
-            }
-            Next::Stop(number) => {
-                return put_stop(out, place, steps + 1, number);
-            }
-        }
+            };
+            return put_stop(out, place, steps + 1, number);
+        };
+        let done = now_at.step(call);
+        let answer = done.answer;
+        place = put_step(out, place, steps + 1, call, answer);
+        now_at = done.state;
+        let after = rest(left);
+        left = after;
+        steps += 1;
     }
 }

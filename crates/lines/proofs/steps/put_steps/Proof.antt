@@ -1,11 +1,15 @@
 -- `lines::steps::put_steps` meets its contract. The invariant: the text from the present state and the bytes that are left is still to come;
 -- each step so far took at most 40 bytes.
 use Prim.Native.Nat.{_+_, _-_, _*_, _≤_}
-use mathlib.Core.Path.{_≡_, sym, _∙_}
+use mathlib.Core.Path.{_≡_, refl, sym, _∙_}
+use mathlib.Core.Logic.{_⊎_, ⊎-elim}
+use denote.Enum.Declared.{tagOf}
 use mathlib.Core.List.{_++_}
 use native.Mathlib.Omega.{arith}
 use borrow.Author.Needs.{needs}
-use Rattle.schedule.specs.declared.Next.the-variants.{Call}
+use Rattle.schedule.proofs.Next.{the-type}
+use Rattle.schedule.specs.declared.Next.{Next}
+use Rattle.schedule.specs.declared.Next.the-variants.{Call, End, Stop}
 use Rattle.schedule.specs.Going.{nextOf}
 use Rattle.schedule.specs.Asked.{foundFrom, foundOf}
 use Rattle.schedule.specs.Turns.{call-room}
@@ -15,6 +19,12 @@ use Rattle.text.specs.Appending.{Leads, leads-start, leads-on, leads-end}
 use Rattle.lines.proofs.Runs.{step-text, end-text, stop-text}
 use Rattle.lines.proofs.steps.put_steps.Statement.{statement}
 use Rattle.lines.proofs.steps.put_steps.Tie as tie
+
+-- what is neither a call nor a stop is the end: 0, 1 and 2 are the cases of what stands next
+only-end : (found : Next) → (tagOf the-type found ≡ 1) ⊎ (tagOf the-type found ≡ 2) → (tagOf the-type found ≡ 0) ⊎ (tagOf the-type found ≡ 1) → found ≡ End
+only-end (Call c) not-call not-stop = absurd (⊎-elim (λ e. omega arith) (λ e. omega arith) not-call)
+only-end End not-call not-stop = refl
+only-end (Stop number) not-call not-stop = absurd (⊎-elim (λ e. omega arith) (λ e. omega arith) not-stop)
 
 abbrev Inv-loop : tie.InvT-loop
 Inv-loop input out₀ at left₀ place₀ now-at₀ steps₀ out left place now-at steps =
@@ -76,9 +86,6 @@ loop-again c = (
   leads-on _ (c .before .before .before .before .before .before .before .before .before .before .before .loop .inv .2) (turn c) (omega (arith, c .before .before .before .before .put-step .ensures .0, c .before .before .before .before .put-step .ensures .1 .next, c .before .before .before .before .before .before .before .before .before .before .before .loop .inv .2 .size, c .before .before .before .before .before .before .before .before .before .before .before .before .before .before .pre .1)) (c .before .before .before .before .put-step .ensures .1),
 )
 
-enum-told : tie.Need-enum-told Inv-loop μ-loop
-enum-told c = search needs
-
 count-requires : tie.Need-count-requires Inv-loop μ-loop
 count-requires c κs = tt
 
@@ -93,7 +100,7 @@ returns c =
     let at = c .before .before .before .before .before .before .before .before .before .loop in
     leads-end
     (rw
-    (end-text (at .steps) (at .now-at) (at .left .now) (at .inv .0) (sym (c .before .before .before .before .before .before .before .before .next .ensures) ∙ c .before .before .before .before .before .before .enum-told .given .1)) at
+    (end-text (at .steps) (at .now-at) (at .left .now) (at .inv .0) (sym (c .before .before .before .before .before .before .before .before .next .ensures) ∙ only-end _ (c .before .before .before .before .before .before .before .match .keys2) (c .before .before .before .before .before .before .match2 .keys2))) at
     (at .inv .2))
     (rw (← c .before .before .before .before .before .count .ensures) (c .before .before .put-end .ensures .1))
 
@@ -104,17 +111,17 @@ add-put-stop : tie.Need-add-put-stop Inv-loop μ-loop
 add-put-stop c = omega arith
 
 put-stop-requires : tie.Need-put-stop-requires Inv-loop μ-loop
-put-stop-requires c κs = (omega arith, omega (arith, c .before .before .before .before .before .loop .inv .2 .size, c .before .before .before .before .before .before .before .before .pre .1))
+put-stop-requires c κs = (omega arith, omega (arith, c .before .before .before .before .before .before .loop .inv .2 .size, c .before .before .before .before .before .before .before .before .before .pre .1))
 
 same-length-2 : tie.Need-same-length-2 Inv-loop μ-loop
-same-length-2 c = c .before .before .put-stop .kept .0 ∙ c .before .before .before .before .before .before .before .before .loop .inv .2 .size
+same-length-2 c = c .before .before .put-stop .kept .0 ∙ c .before .before .before .before .before .before .before .before .before .loop .inv .2 .size
 
 returns-2 : tie.Need-returns-2 Inv-loop μ-loop
 returns-2 c =
-    let at = c .before .before .before .before .before .before .before .before .loop in
+    let at = c .before .before .before .before .before .before .before .before .before .loop in
     leads-end
     (rw
-    (stop-text (at .steps) (at .now-at) (at .left .now) (at .inv .0) _ (sym (c .before .before .before .before .before .before .before .next .ensures) ∙ c .before .before .before .before .before .found2 .given .1)) at
+    (stop-text (at .steps) (at .now-at) (at .left .now) (at .inv .0) _ (sym (c .before .before .before .before .before .before .before .before .next .ensures) ∙ c .before .before .before .before .before .found2 .given .1)) at
     (at .inv .2))
     (c .before .before .put-stop .ensures .1)
 
@@ -127,20 +134,19 @@ put-steps-spec =
     loop-holds
     next-requires
     enum-known-found
+    enum-known-found-2
+    count-requires
+    put-end-requires
+    same-length
+    returns
+    add-put-stop
+    put-stop-requires
+    same-length-2
+    returns-2
     step-requires
     add-put-step
     put-step-requires
     rest-requires
     add-steps
     loop-less
-    loop-again
-    enum-told
-    count-requires
-    put-end-requires
-    same-length
-    returns
-    enum-known-found-2
-    add-put-stop
-    put-stop-requires
-    same-length-2
-    returns-2)
+    loop-again)
