@@ -1,9 +1,7 @@
 // States made from reachable ones by changing a few fields: sound or not, by both checks, and one call on each.
-use crate::both;
 use crate::dice;
 use crate::draw;
 use crate::draw::Plan;
-use crate::plain;
 use crate::totals::Totals;
 use entries::Phase;
 use entries::Slot;
@@ -34,7 +32,7 @@ fn index(seed: usize, k: usize, size: usize, most: usize) -> usize {
 }
 
 // T × H, where H is at most 4.
-pub fn positions(threads: u8, slots: u8) -> usize {
+fn positions(threads: u8, slots: u8) -> usize {
     let t = plain::wide(threads) % 256;
     match slots {
         0 => 0,
@@ -225,9 +223,9 @@ fn changed(seed: usize, s: State) -> State {
 // Both checks on a changed state, and then a call and a count.
 pub fn judged(before: Totals, plan: Plan, index: usize, reached: State) -> Totals {
     let s = changed(dice::mix(plan.seed, index ^ 512), reached);
-    let raw = plain::raw(s);
-    let order = draw::order(plan, index ^ 256, raw.twin());
-    let b = both::called(s, order);
+    let w = twin::of(compare::raw(s));
+    let order = draw::order(plan, index ^ 256, w);
+    let b = compare::called(s, order);
     let seen = before.soundness(b.sound, b.checks).see(b.number);
     seen.call(b.answers).state(b.states).count(b.counts)
 }

@@ -1,6 +1,6 @@
 // The schedules: sizes, length and calls, each worked out from the schedule's number and what the twin's threads are doing.
 use crate::dice;
-use twin::Order;
+use plain::Order;
 use twin::Twin;
 
 pub const SCHEDULES: usize = 20480;

@@ -2,71 +2,14 @@
 use crate::change;
 use crate::draw;
 use crate::draw::Plan;
-use crate::plain;
-use crate::totals;
 use crate::totals::Totals;
+use compare::Five;
 use machine::Started;
 use machine::State;
-use twin::Said;
+use plain::Said;
+use store::Store;
 use twin::Stepped;
-use twin::Store;
 use twin::Twin;
-
-pub struct Five {
-    pub free: usize,
-    pub links: usize,
-    pub hands: usize,
-    pub handovers: usize,
-    pub carried: usize,
-    pub refused: usize,
-}
-
-pub fn first_count(s: State) -> Five {
-    let counted = s.count();
-    let verdict = counted.verdict;
-    let places = counted.places;
-    Five {
-        free: plain::wide(places.free),
-        links: plain::wide(places.links),
-        hands: plain::wide(places.hands),
-        handovers: plain::wide(places.handovers),
-        carried: plain::wide(places.carried),
-        refused: plain::verdict(verdict),
-    }
-}
-
-pub fn twin_count(w: Twin) -> Five {
-    let counts = w.counts();
-    Five {
-        free: plain::wide(counts[1]),
-        links: plain::wide(counts[2]),
-        hands: plain::wide(counts[3]),
-        handovers: plain::wide(counts[4]),
-        carried: plain::wide(counts[5]),
-        refused: 0,
-    }
-}
-
-// "The count of the five places on an unsound state is refused 19 with five zeros."
-pub fn none_counted() -> Five {
-    Five {
-        free: 0,
-        links: 0,
-        hands: 0,
-        handovers: 0,
-        carried: 0,
-        refused: 19,
-    }
-}
-
-pub fn same_five(a: Five, b: Five) -> bool {
-    a.free == b.free
-        && a.links == b.links
-        && a.hands == b.hands
-        && a.handovers == b.handovers
-        && a.carried == b.carried
-        && a.refused == b.refused
-}
 
 // The five places sum to N; those that wait are as many as the history says, and at most T × (H + 1).
 fn sums(f: Five, w: Twin, waiting: usize) -> bool {
@@ -97,9 +40,9 @@ fn sums(f: Five, w: Twin, waiting: usize) -> bool {
 }
 
 fn counted(totals: Totals, s: State, w: Twin, waiting: usize) -> Totals {
-    let theirs = first_count(s);
-    let ours = twin_count(w);
-    totals.count(same_five(theirs, ours) && sums(theirs, w, waiting))
+    let theirs = compare::first_count(s);
+    let ours = compare::twin_count(w);
+    totals.count(theirs.same(ours) && sums(theirs, w, waiting))
 }
 
 // The answers to a call, and whether the store was told of it and gave the same.
@@ -114,10 +57,8 @@ struct Heard {
 fn compared(before: Totals, heard: Heard, s: State, w: Twin, store: Store) -> Totals {
     let theirs = heard.theirs;
     let ours = heard.ours;
-    let seen = before
-        .see(theirs.number)
-        .call(totals::same_said(theirs, ours));
-    let raw = plain::raw(s);
+    let seen = before.see(theirs.number).call(theirs.same(ours));
+    let raw = compare::raw(s);
     let states = seen.state(raw.same(w.raw()));
     let listed = states.listing(heard.listed, heard.agrees);
     let held = listed.holding(store.holds(raw));
@@ -142,7 +83,7 @@ fn compared_start(before: Totals, verdict: usize, mine: Said, s: State, w: Twin)
         .see(verdict)
         .start(verdict == 0)
         .call(verdict == mine.number);
-    let raw = plain::raw(s);
+    let raw = compare::raw(s);
     seen.state(raw.same(w.raw()))
 }
 
@@ -154,14 +95,14 @@ pub fn schedule(number: usize, totals: Totals) -> Totals {
     let ours = twin_start(plan);
     let mut state = began.state;
     let mut w = ours.twin;
-    let mut store = twin::bare(plan.slots);
-    let mut sum = compared_start(totals, plain::verdict(verdict), ours.said, state, w);
+    let mut store = store::bare(plan.slots);
+    let mut sum = compared_start(totals, compare::verdict(verdict), ours.said, state, w);
     for i in 0..256 {
         if i < plan.length {
             let order = draw::order(plan, i, w);
-            let out = state.step(plain::call(order));
+            let out = state.step(compare::call(order));
             let answer = out.answer;
-            let theirs = plain::said(answer);
+            let theirs = compare::said(answer);
             let mine = w.step(order);
             let ours = mine.said;
             let told = store.hear(order, theirs);

@@ -1,6 +1,4 @@
 // What was compared, and what was seen.
-use twin::Said;
-
 pub struct Totals {
     // How often each answer and refusal was given, by its number.
     pub seen: [u32; 64],
@@ -32,14 +30,6 @@ pub fn none() -> Totals {
     }
 }
 
-pub fn up(n: usize) -> usize {
-    if n < 1000000000 { n + 1 } else { n }
-}
-
-pub fn same_said(a: Said, b: Said) -> bool {
-    a.number == b.number && a.a == b.a && a.b == b.b
-}
-
 impl Totals {
     pub fn see(mut self, number: usize) -> Totals {
         if number < 64 {
@@ -53,62 +43,51 @@ impl Totals {
 
     pub fn agree(mut self, same: bool) -> Totals {
         if !same {
-            self.differences = up(self.differences);
-        }
-        self
-    }
-
-    // With the differences of the directed cases.
-    pub fn besides(mut self, more: usize) -> Totals {
-        let n = self.differences;
-        if n < 1000000000 {
-            if more < 1000000000 {
-                self.differences = n + more;
-            }
+            self.differences = plain::up(self.differences);
         }
         self
     }
 
     pub fn start(mut self, good: bool) -> Totals {
         if good {
-            self.started = up(self.started);
+            self.started = plain::up(self.started);
         }
         self
     }
 
     pub fn call(mut self, same: bool) -> Totals {
-        self.calls = up(self.calls);
+        self.calls = plain::up(self.calls);
         self.agree(same)
     }
 
     pub fn count(mut self, same: bool) -> Totals {
-        self.counts = up(self.counts);
+        self.counts = plain::up(self.counts);
         self.agree(same)
     }
 
     pub fn state(mut self, same: bool) -> Totals {
-        self.states = up(self.states);
+        self.states = plain::up(self.states);
         self.agree(same)
     }
 
     pub fn listing(mut self, listed: bool, same: bool) -> Totals {
         if listed {
-            self.listed = up(self.listed);
+            self.listed = plain::up(self.listed);
         }
         self.agree(same)
     }
 
     pub fn holding(mut self, same: bool) -> Totals {
-        self.holdings = up(self.holdings);
+        self.holdings = plain::up(self.holdings);
         self.agree(same)
     }
 
     pub fn soundness(mut self, yes: bool, same: bool) -> Totals {
-        self.changed = up(self.changed);
+        self.changed = plain::up(self.changed);
         if yes {
-            self.sound = up(self.sound);
+            self.sound = plain::up(self.sound);
         } else {
-            self.unsound = up(self.unsound);
+            self.unsound = plain::up(self.unsound);
         }
         self.agree(same)
     }

@@ -2,12 +2,9 @@
 // first, of two threads that meet, in which it no longer holds or answers what the plain store does.
 use crate::draw;
 use crate::draw::Plan;
-use crate::plain;
 use crate::run;
 use crate::show;
-use crate::totals;
-use twin::Said;
-use twin::Store;
+use plain::Said;
 use twin::Twin;
 
 // A schedule and a call of it, both from 0; `there` is false where no schedule shows a difference.
@@ -33,14 +30,15 @@ fn differs_at(plan: Plan, trap: usize) -> usize {
     for i in 0..256 {
         if i < plan.length {
             let order = draw::order(plan, i, drawer);
-            let out = state.step(plain::call(order));
+            let out = state.step(compare::call(order));
             let answer = out.answer;
             let drawn = drawer.step(order);
             let ours = trapped.step(order);
             state = out.state;
             drawer = drawn.twin;
             trapped = ours.twin;
-            if !totals::same_said(plain::said(answer), ours.said) {
+            let theirs = compare::said(answer);
+            if !theirs.same(ours.said) {
                 return i;
             }
         }
@@ -69,7 +67,7 @@ pub fn first_difference(trap: usize) -> Shown {
 // The first call of a schedule, drawn for a twin in a trap, after which it does not agree with the plain store, or 256.
 fn loses_at(plan: Plan, trap: usize) -> usize {
     let mut trapped = fresh(plan, trap);
-    let mut store = twin::bare(plan.slots);
+    let mut store = store::bare(plan.slots);
     for i in 0..256 {
         if i < plan.length {
             let order = draw::order(plan, i, trapped);
@@ -104,12 +102,12 @@ pub fn first_loss(trap: usize) -> Shown {
 }
 
 fn numbers(s: Said) {
-    show::text(b" ");
-    show::number(s.number);
-    show::text(b" ");
-    show::number(s.a);
-    show::text(b" ");
-    show::number(s.b);
+    compare::text(b" ");
+    compare::number(s.number);
+    compare::text(b" ");
+    compare::number(s.a);
+    compare::text(b" ");
+    compare::number(s.b);
 }
 
 // The calls of a schedule up to one, drawn for a twin.
@@ -123,7 +121,7 @@ fn calls(plan: Plan, w: Twin, last: usize) {
             drawer = drawn.twin;
         }
     }
-    show::text(b"\n");
+    compare::text(b"\n");
 }
 
 // The last answer of the twin that draws, and of one in a trap.
@@ -138,32 +136,32 @@ fn answers(plan: Plan, w: Twin, last: usize, trap: usize) {
             let ours = trapped.step(order);
             trapped = ours.twin;
             if i == last {
-                show::text(b"    answer");
+                compare::text(b"    answer");
                 numbers(drawn.said);
-                show::text(b", in the trap");
+                compare::text(b", in the trap");
                 numbers(ours.said);
-                show::text(b"\n");
+                compare::text(b"\n");
             }
         }
     }
 }
 
 fn found(plan: Plan, s: Shown, drawing: usize) {
-    show::number(s.schedule);
-    show::text(b", sizes ");
+    compare::number(s.schedule);
+    compare::text(b", sizes ");
     show::sizes(plan);
-    show::text(b", calls");
+    compare::text(b", calls");
     calls(plan, fresh(plan, drawing), s.call);
 }
 
 fn differ(trap: usize) {
     let s = first_difference(trap);
     if !s.there {
-        show::text(b"  the machines answer the same\n");
+        compare::text(b"  the machines answer the same\n");
         return;
     }
     let plan = draw::planned(s.schedule);
-    show::text(b"  the machines differ at the end of schedule ");
+    compare::text(b"  the machines differ at the end of schedule ");
     found(plan, s, 0);
     answers(plan, fresh(plan, 0), s.call, trap);
 }
@@ -171,27 +169,27 @@ fn differ(trap: usize) {
 fn lose(trap: usize) {
     let s = first_loss(trap);
     if !s.there {
-        show::text(b"  the plain store is kept to\n");
+        compare::text(b"  the plain store is kept to\n");
         return;
     }
-    show::text(b"  the plain store is left at the end of meeting ");
+    compare::text(b"  the plain store is left at the end of meeting ");
     found(draw::meeting(s.schedule), s, trap);
 }
 
 // Nothing is lost by an early drain, which only leaves an object behind, so that trap is not held to the store.
 pub fn all() {
-    show::text(b"trap: moving on after a swap\n");
+    compare::text(b"trap: moving on after a swap\n");
     differ(1);
     lose(1);
-    show::text(b"trap: marking at publication\n");
+    compare::text(b"trap: marking at publication\n");
     differ(2);
     lose(2);
-    show::text(b"trap: draining before the hazard is zeroed\n");
+    compare::text(b"trap: draining before the hazard is zeroed\n");
     differ(3);
-    show::text(b"trap: freeing at the last match of a scan\n");
+    compare::text(b"trap: freeing at the last match of a scan\n");
     differ(4);
     lose(4);
-    show::text(b"trap: scanning only other threads' slots\n");
+    compare::text(b"trap: scanning only other threads' slots\n");
     differ(5);
     lose(5);
 }

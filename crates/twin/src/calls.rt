@@ -3,10 +3,10 @@ use crate::num;
 use crate::place;
 use crate::trap;
 use crate::twin;
-use crate::twin::Order;
 use crate::twin::Stepped;
-use crate::twin::Task;
 use crate::twin::Twin;
+use plain::Order;
+use plain::Task;
 
 fn uses_slot(operation: usize) -> bool {
     operation == 2 || operation == 3 || operation == 4 || operation == 6
@@ -86,14 +86,14 @@ impl Twin {
         let tasks = self.task;
         let task = twin::task_at(tasks, o.thread);
         if o.operation == 7 {
-            return if task.doing == twin::IDLE { 27 } else { 0 };
+            return if task.doing == plain::IDLE { 27 } else { 0 };
         }
-        if task.doing != twin::IDLE {
+        if task.doing != plain::IDLE {
             return 26;
         }
         let n = self.objects;
         let hand = place::lowest(&self.place, n, place::hand(o.thread));
-        let marked = num::flag(&self.mark, place::position(o.thread, self.slots, o.slot));
+        let marked = num::flag(&self.mark, plain::position(o.thread, self.slots, o.slot));
         let free = if o.operation == 1 {
             place::lowest(&self.place, n, place::FREE)
         } else {
@@ -124,9 +124,7 @@ impl Twin {
     fn take(mut self, t: usize, tag: usize) -> Stepped {
         let object = place::lowest(&self.place, self.objects, place::FREE);
         place::put(&mut self.place, object, place::hand(t));
-        if object < 241 {
-            self.tag[object] = num::word(tag);
-        }
+        num::set_tag(&mut self.tag, object, tag);
         twin::answer(self, 1, object, 0)
     }
 
@@ -134,7 +132,7 @@ impl Twin {
         let seen = place::lowest(&self.place, self.objects, place::link(link));
         if t < 8 {
             self.task[t] = Task {
-                doing: twin::LOADED,
+                doing: plain::LOADED,
                 slot,
                 link,
                 seen,
@@ -147,7 +145,7 @@ impl Twin {
     fn swap(mut self, t: usize, slot: usize, link: usize) -> Stepped {
         let n = self.objects;
         let there = place::lowest(&self.place, n, place::link(link));
-        let held = num::at(&self.hazard, place::position(t, self.slots, slot));
+        let held = num::at(&self.hazard, plain::position(t, self.slots, slot));
         let wanted = if slot == 255 { 0 } else { held };
         if there != wanted {
             return twin::answer(self, 7, 0, 0);
@@ -159,7 +157,7 @@ impl Twin {
     }
 
     fn read(self, t: usize, slot: usize) -> Stepped {
-        let object = num::at(&self.hazard, place::position(t, self.slots, slot));
+        let object = num::at(&self.hazard, plain::position(t, self.slots, slot));
         let tag = num::tag(&self.tag, object);
         twin::answer(self, 8, tag, 0)
     }
@@ -168,13 +166,13 @@ impl Twin {
         let object = place::lowest(&self.place, self.objects, place::hand(t));
         place::put(&mut self.place, object, place::carried(t));
         if t < 8 {
-            self.task[t] = twin::scanning(twin::LOOK, 0);
+            self.task[t] = plain::scanning(plain::LOOK, 0);
         }
         twin::answer(self, 2, object, 0)
     }
 
     fn clear(mut self, t: usize, slot: usize) -> Stepped {
-        let p = place::position(t, self.slots, slot);
+        let p = plain::position(t, self.slots, slot);
         if self.trap == trap::DRAIN_EARLY {
             let left = place::lowest(&self.place, self.objects, place::handover(p));
             place::put(&mut self.place, left, place::carried(t));
@@ -186,7 +184,7 @@ impl Twin {
         }
         if t < 8 {
             self.task[t] = Task {
-                doing: twin::DRAINING,
+                doing: plain::DRAINING,
                 slot,
                 link: 0,
                 seen: 0,

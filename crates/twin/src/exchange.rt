@@ -1,231 +1,140 @@
-// From plain numbers to a twin, from a twin to plain numbers, and whether two states in plain numbers are the same.
-use crate::num;
+// From plain numbers to a twin, and from a twin to plain numbers.
 use crate::place;
-use crate::raw;
-use crate::raw::Raw;
 use crate::twin;
-use crate::twin::Task;
 use crate::twin::Twin;
+use plain::Raw;
+use plain::Task;
 
-impl Raw {
-    // The twin of a sound state.
-    pub fn twin(self) -> Twin {
-        let mut w = twin::blank();
-        w.threads = self.threads;
-        w.slots = self.slots;
-        w.links = self.links;
-        w.objects = self.objects;
-        let free = self.free_into(w);
-        let linked = self.links_into(free);
-        let held = self.threads_into(linked);
-        self.slots_into(held)
-    }
+// The twin of a sound state. Of another it is one to draw a call for: there an object may be in two places, and here it is in
+// the last that names it.
+pub fn of(r: Raw) -> Twin {
+    let mut w = twin::blank();
+    let hazards = r.hazard;
+    let marks = r.mark;
+    let tasks = r.task;
+    let tags = r.tag;
+    let carried = carried(tasks);
+    w.threads = r.threads;
+    w.slots = r.slots;
+    w.links = r.links;
+    w.objects = r.objects;
+    w.hazard = hazards;
+    w.mark = marks;
+    w.task = tasks;
+    w.tag = tags;
+    stand_free(&mut w.place, &r.free);
+    stand(&mut w.place, &r.link, place::LINK);
+    stand(&mut w.place, &r.hand, place::HAND);
+    stand(&mut w.place, &carried, place::CARRIED);
+    stand(&mut w.place, &r.handover, place::HANDOVER);
+    w
+}
 
-    fn free_into(self, mut w: Twin) -> Twin {
-        for i in 0..240 {
-            w.tag[i + 1] = self.tag[i];
-            if self.free[i] {
-                w.place[i + 1] = place::FREE;
-            }
+fn stand_free<'a>(places: &'a mut [u8; 241], free: &'a [bool; 240]) {
+    for i in 0..240 {
+        if free[i] {
+            places[i + 1] = place::FREE;
         }
-        w
-    }
-
-    fn links_into(self, mut w: Twin) -> Twin {
-        for l in 0..16 {
-            let object = num::wide(self.link[l]);
-            if object < 241 {
-                w.place[object] = place::link(l);
-            }
-        }
-        w
-    }
-
-    fn threads_into(self, mut w: Twin) -> Twin {
-        for t in 0..8 {
-            let object = num::wide(self.hand[t]);
-            if object < 241 {
-                w.place[object] = place::hand(t);
-            }
-            let task = self.task[t];
-            let bare = stripped(task);
-            w.task[t] = bare;
-            let carries = carries(task);
-            if carries < 241 {
-                w.place[carries] = place::carried(t);
-            }
-        }
-        w
-    }
-
-    fn slots_into(self, mut w: Twin) -> Twin {
-        for p in 0..32 {
-            w.hazard[p] = self.hazard[p];
-            w.mark[p] = self.mark[p];
-            let object = num::wide(self.handover[p]);
-            if object < 241 {
-                w.place[object] = place::handover(p);
-            }
-        }
-        w
     }
 }
 
-// The object that a task of a state in plain numbers carries, or 0.
-fn carries(task: Task) -> usize {
-    if task.doing == twin::LOOK || task.doing == twin::SWAP {
-        task.seen
-    } else {
-        0
+// Each object in a row of places of one kind stands there.
+fn stand<'a>(places: &'a mut [u8; 241], objects: &'a [u8], kind: usize) {
+    for i in 0..objects.len() {
+        let object = plain::wide(objects[i]);
+        if object < 241 {
+            places[object] = place::nth(kind, i);
+        }
     }
 }
 
-// A twin's task: what is carried is in the object's place.
-fn stripped(task: Task) -> Task {
-    if task.doing == twin::LOOK || task.doing == twin::SWAP {
-        twin::scanning(task.doing, task.position)
-    } else {
-        task
+// The object that each thread carries, or 0.
+fn carried(tasks: [Task; 8]) -> [u8; 8] {
+    let mut objects = [0; 8];
+    for t in 0..8 {
+        let task = tasks[t];
+        if (task.doing == plain::LOOK) | (task.doing == plain::SWAP) {
+            objects[t] = plain::byte(task.seen);
+        }
     }
+    objects
 }
 
 impl Twin {
     // The state in plain numbers.
     pub fn raw(self) -> Raw {
-        let mut r = raw::empty();
+        let mut r = plain::empty();
+        let hazards = self.hazard;
+        let marks = self.mark;
+        let tasks = self.task;
+        let tags = self.tag;
+        let at = standing(&self.place, self.objects);
+        let mut links = [0; 16];
+        let mut hands = [0; 8];
+        let mut handovers = [0; 32];
+        fill(&mut links, &at, place::LINK);
+        fill(&mut hands, &at, place::HAND);
+        fill(&mut handovers, &at, place::HANDOVER);
         r.threads = self.threads;
         r.slots = self.slots;
         r.links = self.links;
         r.objects = self.objects;
-        let hazards = self.hazard;
-        let marks = self.mark;
-        let tasks = self.task;
         r.hazard = hazards;
         r.mark = marks;
-        r.task = tasks;
-        for i in 0..240 {
-            if self.objects <= i {
-                return r;
-            }
-            r.tag[i] = self.tag[i + 1];
-            let place = self.place[i + 1];
-            let kind = place::kind(place);
-            let which = place::which(place);
-            if kind == 1 {
-                r.free[i] = true;
-            } else if kind == 2 {
-                if which < 16 {
-                    r.link[which] = num::byte(i + 1);
-                }
-            } else if kind == 3 {
-                if which < 8 {
-                    r.hand[which] = num::byte(i + 1);
-                }
-            } else if kind == 4 {
-                if which < 32 {
-                    r.handover[which] = num::byte(i + 1);
-                }
-            } else if kind == 5 {
-                if which < 8 {
-                    r.task[which] = carrying(tasks[which], i + 1);
-                }
-            }
-        }
+        r.task = laden(tasks, &at);
+        r.tag = tags;
+        r.link = links;
+        r.hand = hands;
+        r.handover = handovers;
+        fill_free(&mut r.free, &self.place, self.objects);
         r
     }
 }
 
-fn carrying(task: Task, object: usize) -> Task {
-    Task {
-        doing: task.doing,
-        slot: task.slot,
-        link: task.link,
-        seen: object,
-        position: task.position,
-    }
-}
-
-fn same(a: &[u8], b: &[u8]) -> bool {
-    if a.len() != b.len() {
-        return false;
-    }
-    for i in 0..a.len() {
-        if a[i] != b[i] {
-            return false;
+// The object at each place of n objects, by the place's byte.
+fn standing(places: &[u8; 241], n: usize) -> [u8; 256] {
+    let mut at = [0; 256];
+    for o in 1..241 {
+        if o <= n {
+            let place = plain::wide(places[o]);
+            if place < 256 {
+                at[place] = plain::byte(o);
+            }
         }
     }
-    true
+    at
 }
 
-fn same_task(a: Task, b: Task) -> bool {
-    a.doing == b.doing
-        && a.slot == b.slot
-        && a.link == b.link
-        && a.seen == b.seen
-        && a.position == b.position
-}
-
-fn same_tasks(a: [Task; 8], b: [Task; 8]) -> bool {
+// Tasks with the object that each thread carries.
+fn laden(mut tasks: [Task; 8], at: &[u8; 256]) -> [Task; 8] {
     for t in 0..8 {
-        if !same_task(a[t], b[t]) {
-            return false;
+        let object = plain::wide(at[place::CARRIED + t]);
+        if object != 0 {
+            let task = tasks[t];
+            tasks[t] = Task {
+                doing: task.doing,
+                slot: task.slot,
+                link: task.link,
+                seen: object,
+                position: task.position,
+            };
         }
     }
-    true
+    tasks
 }
 
-fn same_tags<'a>(a: &'a [u32; 240], b: &'a [u32; 240]) -> bool {
+// The objects in a row of places of one kind.
+fn fill<'a>(objects: &'a mut [u8], at: &'a [u8; 256], kind: usize) {
+    for i in 0..objects.len() {
+        let place = place::nth(kind, i) as usize;
+        objects[i] = at[place];
+    }
+}
+
+fn fill_free<'a>(free: &'a mut [bool; 240], places: &'a [u8; 241], n: usize) {
     for i in 0..240 {
-        if a[i] != b[i] {
-            return false;
+        if i < n {
+            free[i] = places[i + 1] == place::FREE;
         }
-    }
-    true
-}
-
-fn same_free<'a>(a: &'a [bool; 240], b: &'a [bool; 240]) -> bool {
-    for i in 0..240 {
-        if a[i] != b[i] {
-            return false;
-        }
-    }
-    true
-}
-
-// The same marks, and the same hazards under them.
-fn same_protected<'a>(
-    a: &'a [u8; 32],
-    b: &'a [u8; 32],
-    am: &'a [bool; 32],
-    bm: &'a [bool; 32],
-) -> bool {
-    for p in 0..32 {
-        if am[p] != bm[p] {
-            return false;
-        }
-        if am[p] && a[p] != b[p] {
-            return false;
-        }
-    }
-    true
-}
-
-impl Raw {
-    pub fn same(self, other: Raw) -> bool {
-        let mine = self.task;
-        let yours = other.task;
-        let sizes = self.threads == other.threads
-            && self.slots == other.slots
-            && self.links == other.links;
-        sizes
-            && self.objects == other.objects
-            && same(&self.link, &other.link)
-            && same(&self.hand, &other.hand)
-            && same(&self.hazard, &other.hazard)
-            && same_protected(&self.hazard, &other.hazard, &self.mark, &other.mark)
-            && same(&self.handover, &other.handover)
-            && same_free(&self.free, &other.free)
-            && same_tags(&self.tag, &other.tag)
-            && same_tasks(mine, yours)
     }
 }

@@ -4,13 +4,13 @@ use crate::place;
 use crate::trap;
 use crate::twin;
 use crate::twin::Stepped;
-use crate::twin::Task;
 use crate::twin::Twin;
+use plain::Task;
 
 // Whether a hazard after position p is the object.
 fn later(hazards: &[u8; 32], object: usize, p: usize) -> bool {
     for q in 0..32 {
-        if p < q && num::wide(hazards[q]) == object {
+        if p < q && plain::wide(hazards[q]) == object {
             return true;
         }
     }
@@ -19,7 +19,7 @@ fn later(hazards: &[u8; 32], object: usize, p: usize) -> bool {
 
 // Whether a position is one of a thread's own.
 fn own(t: usize, slots: usize, p: usize) -> bool {
-    let first = place::position(t, slots, 0);
+    let first = plain::position(t, slots, 0);
     if first <= p {
         return p - first < slots;
     }
@@ -42,9 +42,9 @@ impl Twin {
 
     // "Loaded: store the object in the hazard, mark off, become Published."
     fn publish(mut self, t: usize, task: Task) -> Stepped {
-        let p = place::position(t, self.slots, task.slot);
+        let p = plain::position(t, self.slots, task.slot);
         if p < 32 {
-            self.hazard[p] = num::byte(task.seen);
+            self.hazard[p] = plain::byte(task.seen);
             self.mark[p] = false;
         }
         if self.trap == trap::MARK_EARLY {
@@ -52,7 +52,7 @@ impl Twin {
         }
         if t < 8 {
             self.task[t] = Task {
-                doing: twin::PUBLISHED,
+                doing: plain::PUBLISHED,
                 slot: task.slot,
                 link: task.link,
                 seen: 0,
@@ -65,7 +65,7 @@ impl Twin {
     // "Equal to the hazard and not 0: mark on, idle, 4 Protected (object, tag). Equal and 0: idle, 5 Nothing (0, 0)."
     fn protected(mut self, t: usize, p: usize, object: usize) -> Stepped {
         if t < 8 {
-            self.task[t] = twin::idle();
+            self.task[t] = plain::idle();
         }
         if object == 0 {
             return twin::answer(self, 5, 0, 0);
@@ -79,14 +79,14 @@ impl Twin {
 
     // "Published: read the link again."
     fn read_again(mut self, t: usize, task: Task) -> Stepped {
-        let p = place::position(t, self.slots, task.slot);
+        let p = plain::position(t, self.slots, task.slot);
         let there = place::lowest(&self.place, self.objects, place::link(task.link));
         if there == num::at(&self.hazard, p) {
             return self.protected(t, p, there);
         }
         if t < 8 {
             self.task[t] = Task {
-                doing: twin::LOADED,
+                doing: plain::LOADED,
                 slot: task.slot,
                 link: task.link,
                 seen: there,
@@ -98,7 +98,7 @@ impl Twin {
 
     // "Draining: take the handover and put 0 there."
     fn drain(mut self, t: usize, task: Task) -> Stepped {
-        let p = place::position(t, self.slots, task.slot);
+        let p = plain::position(t, self.slots, task.slot);
         let early = self.trap == trap::DRAIN_EARLY;
         if early {
             if p < 32 {
@@ -115,13 +115,13 @@ impl Twin {
             return self.rest(t, 9, 0, 0);
         }
         place::put(&mut self.place, object, place::carried(t));
-        self.scan(t, twin::LOOK, p)
+        self.scan(t, plain::LOOK, p)
     }
 
     // Idle, with an answer.
     fn rest(mut self, t: usize, number: usize, a: usize, b: usize) -> Stepped {
         if t < 8 {
-            self.task[t] = twin::idle();
+            self.task[t] = plain::idle();
         }
         twin::answer(self, number, a, b)
     }
@@ -129,23 +129,23 @@ impl Twin {
     // Look or Swap at a position, and 3.
     fn scan(mut self, t: usize, doing: usize, p: usize) -> Stepped {
         if t < 8 {
-            self.task[t] = twin::scanning(doing, p);
+            self.task[t] = plain::scanning(doing, p);
         }
         twin::answer(self, 3, 0, 0)
     }
 
     fn scan_on(self, t: usize, p: usize) -> Stepped {
         if p < 32 {
-            self.scan(t, twin::LOOK, p + 1)
+            self.scan(t, plain::LOOK, p + 1)
         } else {
-            self.scan(t, twin::LOOK, 32)
+            self.scan(t, plain::LOOK, 32)
         }
     }
 
     // "Look": on to Swap, to the next position, or to freeing at the end.
     fn look(self, t: usize, p: usize) -> Stepped {
         let object = place::lowest(&self.place, self.objects, place::carried(t));
-        if p >= place::position(self.threads, self.slots, 0) {
+        if p >= plain::position(self.threads, self.slots, 0) {
             return self.free(t, object);
         }
         let blind = self.trap == trap::OTHERS_ONLY && own(t, self.slots, p);
@@ -155,14 +155,12 @@ impl Twin {
         if self.trap == trap::FREE_AT_LAST && !later(&self.hazard, object, p) {
             return self.free(t, object);
         }
-        self.scan(t, twin::SWAP, p)
+        self.scan(t, plain::SWAP, p)
     }
 
     fn free(mut self, t: usize, object: usize) -> Stepped {
         place::put(&mut self.place, object, place::FREE);
-        if object < 241 {
-            self.tag[object] = 0;
-        }
+        num::set_tag(&mut self.tag, object, 0);
         self.rest(t, 11, object, 0)
     }
 
@@ -179,6 +177,6 @@ impl Twin {
         if self.trap == trap::MOVE_ON {
             return self.scan_on(t, p);
         }
-        self.scan(t, twin::LOOK, p)
+        self.scan(t, plain::LOOK, p)
     }
 }

@@ -1,62 +1,50 @@
 // A place as one byte: its kind in the forties, and which one it is in the rest. 0 is the place of no object of the machine,
 // and 39 no place at all.
-use crate::num;
-
 pub const NOWHERE: u8 = 39;
 
 pub const FREE: u8 = 40;
 
-const LINK: usize = 80;
+pub const LINK: usize = 80;
 
-const HAND: usize = 120;
+pub const HAND: usize = 120;
 
-const HANDOVER: usize = 160;
+pub const HANDOVER: usize = 160;
 
-const CARRIED: usize = 200;
+pub const CARRIED: usize = 200;
+
+// The place of one kind that has a number below 40.
+pub fn nth(kind: usize, i: usize) -> u8 {
+    if kind <= CARRIED {
+        if i < 40 {
+            return plain::byte(kind + i);
+        }
+    }
+    NOWHERE
+}
 
 pub fn link(l: usize) -> u8 {
-    if l < 16 { num::byte(LINK + l) } else { NOWHERE }
+    nth(LINK, l)
 }
 
 pub fn hand(t: usize) -> u8 {
-    if t < 8 { num::byte(HAND + t) } else { NOWHERE }
+    nth(HAND, t)
 }
 
 pub fn handover(p: usize) -> u8 {
-    if p < 32 {
-        num::byte(HANDOVER + p)
-    } else {
-        NOWHERE
-    }
+    nth(HANDOVER, p)
 }
 
 pub fn carried(t: usize) -> u8 {
-    if t < 8 {
-        num::byte(CARRIED + t)
-    } else {
-        NOWHERE
-    }
+    nth(CARRIED, t)
 }
 
 // 1 free, 2 a link, 3 a hand, 4 a handover, 5 carried.
 pub fn kind(place: u8) -> usize {
-    num::wide(place / 40)
+    plain::wide(place / 40)
 }
 
 pub fn which(place: u8) -> usize {
-    num::wide(place % 40)
-}
-
-// 01: "A slot's position is thread × H + slot". With the thread T and the slot 0 it is T × H.
-pub fn position(t: usize, slots: usize, slot: usize) -> usize {
-    if t < 9 {
-        if slots < 5 {
-            if slot < 4 {
-                return t * slots + slot;
-            }
-        }
-    }
-    99
+    plain::wide(place % 40)
 }
 
 // The lowest-numbered of n objects at a place, or 0.

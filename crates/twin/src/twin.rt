@@ -1,29 +1,10 @@
 use crate::num;
 use crate::place;
+use plain::Said;
+use plain::Task;
 
-pub const IDLE: usize = 0;
-
-pub const LOADED: usize = 1;
-
-pub const PUBLISHED: usize = 2;
-
-pub const DRAINING: usize = 3;
-
-pub const LOOK: usize = 4;
-
-pub const SWAP: usize = 5;
-
-// What a thread is in the middle of. Fields that it does not use are 0. The object that Look and Swap carry is not here: it
-// is the one whose place is "carried by this thread".
-pub struct Task {
-    pub doing: usize,
-    pub slot: usize,
-    pub link: usize,
-    pub seen: usize,
-    pub position: usize,
-}
-
-// `trap` is 0, or the number of one of 01's traps that this twin falls into (trap.rt).
+// `trap` is 0, or the number of one of 01's traps that this twin falls into (trap.rt). Object o has its place at o and its tag at
+// o - 1. What Look and Swap carry is not read off the task: it is the object whose place is "carried by this thread".
 pub struct Twin {
     pub trap: usize,
     pub threads: usize,
@@ -31,25 +12,10 @@ pub struct Twin {
     pub links: usize,
     pub objects: usize,
     pub place: [u8; 241],
-    pub tag: [u32; 241],
+    pub tag: [u32; 240],
     pub hazard: [u8; 32],
     pub mark: [bool; 32],
     pub task: [Task; 8],
-}
-
-pub struct Order {
-    pub thread: usize,
-    pub operation: usize,
-    pub slot: usize,
-    pub link: usize,
-    pub tag: usize,
-}
-
-// An answer or refusal by 01's number, with its two values.
-pub struct Said {
-    pub number: usize,
-    pub a: usize,
-    pub b: usize,
 }
 
 pub struct Stepped {
@@ -57,29 +23,8 @@ pub struct Stepped {
     pub said: Said,
 }
 
-pub fn idle() -> Task {
-    Task {
-        doing: IDLE,
-        slot: 0,
-        link: 0,
-        seen: 0,
-        position: 0,
-    }
-}
-
-// Look or Swap at a position.
-pub fn scanning(doing: usize, position: usize) -> Task {
-    Task {
-        doing,
-        slot: 0,
-        link: 0,
-        seen: 0,
-        position,
-    }
-}
-
 pub fn blank() -> Twin {
-    let rest = idle();
+    let rest = plain::idle();
     Twin {
         trap: 0,
         threads: 0,
@@ -87,7 +32,7 @@ pub fn blank() -> Twin {
         links: 0,
         objects: 0,
         place: [0; 241],
-        tag: [0; 241],
+        tag: [0; 240],
         hazard: [0; 32],
         mark: [false; 32],
         task: [rest; 8],
@@ -146,7 +91,7 @@ fn all_free(places: &mut [u8; 241], objects: usize) {
 }
 
 pub fn task_at(tasks: [Task; 8], t: usize) -> Task {
-    if t < 8 { tasks[t] } else { idle() }
+    if t < 8 { tasks[t] } else { plain::idle() }
 }
 
 impl Twin {
@@ -170,18 +115,18 @@ impl Twin {
     }
 
     pub fn hazard_of(self, t: usize, slot: usize) -> usize {
-        num::at(&self.hazard, place::position(t, self.slots, slot))
+        num::at(&self.hazard, plain::position(t, self.slots, slot))
     }
 
     pub fn busy(self, t: usize) -> bool {
         let tasks = self.task;
         let task = task_at(tasks, t);
-        task.doing != IDLE
+        task.doing != plain::IDLE
     }
 
     // T × (H + 1), the most objects that can wait to be freed.
     pub fn bound(self) -> usize {
-        let all = place::position(self.threads, self.slots, 0);
+        let all = plain::position(self.threads, self.slots, 0);
         let threads = self.threads;
         if threads < 9 {
             if all < 33 {

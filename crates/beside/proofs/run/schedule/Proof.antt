@@ -6,16 +6,16 @@ use Rattle.beside.proofs.run.schedule.Tie as tie
 use Rattle.beside.proofs.change.judged.Reads as judged-reads
 use Rattle.beside.proofs.draw.order.Reads as order-reads
 use Rattle.beside.proofs.draw.planned.Reads as planned-reads
-use Rattle.beside.proofs.plain.call.Reads as call-reads
-use Rattle.beside.proofs.plain.said.Reads as said-reads
-use Rattle.beside.proofs.plain.verdict.Reads as verdict-reads
+use Rattle.compare.proofs.call.Reads as call-reads
+use Rattle.compare.proofs.said.Reads as said-reads
+use Rattle.compare.proofs.verdict.Reads as verdict-reads
 use Rattle.beside.proofs.run.compared.Reads as compared-reads
 use Rattle.beside.proofs.run.compared_start.Reads as compared-start-reads
 use Rattle.beside.proofs.run.machine_start.Reads as machine-start-reads
 use Rattle.beside.proofs.run.twin_start.Reads as twin-start-reads
 use Rattle.machine.proofs.State.step.Reads as State-step-reads
-use Rattle.twin.proofs.store.Store.hear.Reads as hear-reads
-use Rattle.twin.proofs.bare.Reads as bare-reads
+use Rattle.store.proofs.Store.hear.Reads as hear-reads
+use Rattle.store.proofs.bare.Reads as bare-reads
 use Rattle.twin.proofs.twin.Twin.step.Reads as twin-Twin-step-reads
 
 abbrev Inv-loop : tie.InvT-loop

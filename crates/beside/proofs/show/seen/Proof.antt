@@ -3,9 +3,9 @@ use borrow.Author.Needs.{needs}
 use Prim.Native.Nat.{_≤_, _-_}
 use Rattle.beside.proofs.show.seen.Statement.{statement}
 use Rattle.beside.proofs.show.seen.Tie as tie
-use Rattle.beside.proofs.plain.wide32.Reads as wide32-reads
-use Rattle.beside.proofs.show.number.Reads as number-reads
-use Rattle.beside.proofs.show.text.Reads as text-reads
+use Rattle.plain.proofs.wide32.Reads as wide32-reads
+use Rattle.compare.proofs.number.Reads as number-reads
+use Rattle.compare.proofs.text.Reads as text-reads
 
 abbrev Inv-loop : tie.InvT-loop
 Inv-loop low high t k₀ t6 t7 t8 k = k ≤ 64

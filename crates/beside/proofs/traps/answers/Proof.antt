@@ -4,7 +4,7 @@ use Prim.Native.Nat.{_≤_, _-_}
 use Rattle.beside.proofs.traps.answers.Statement.{statement}
 use Rattle.beside.proofs.traps.answers.Tie as tie
 use Rattle.beside.proofs.draw.order.Reads as order-reads
-use Rattle.beside.proofs.show.text.Reads as text-reads
+use Rattle.compare.proofs.text.Reads as text-reads
 use Rattle.beside.proofs.traps.numbers.Reads as numbers-reads
 use Rattle.twin.proofs.twin.Twin.in_trap.Reads as in-trap-reads
 use Rattle.twin.proofs.twin.Twin.step.Reads as step-reads

@@ -5,7 +5,7 @@ use Rattle.beside.proofs.traps.calls.Statement.{statement}
 use Rattle.beside.proofs.traps.calls.Tie as tie
 use Rattle.beside.proofs.draw.order.Reads as draw-order-reads
 use Rattle.beside.proofs.show.order.Reads as show-order-reads
-use Rattle.beside.proofs.show.text.Reads as text-reads
+use Rattle.compare.proofs.text.Reads as text-reads
 use Rattle.twin.proofs.twin.Twin.step.Reads as step-reads
 
 abbrev Inv-loop : tie.InvT-loop

@@ -5,9 +5,9 @@ use Rattle.beside.proofs.traps.loses_at.Statement.{statement}
 use Rattle.beside.proofs.traps.loses_at.Tie as tie
 use Rattle.beside.proofs.draw.order.Reads as order-reads
 use Rattle.beside.proofs.traps.fresh.Reads as fresh-reads
-use Rattle.twin.proofs.store.Store.hear.Reads as hear-reads
-use Rattle.twin.proofs.store.Store.holds.Reads as holds-reads
-use Rattle.twin.proofs.bare.Reads as bare-reads
+use Rattle.store.proofs.Store.hear.Reads as hear-reads
+use Rattle.store.proofs.Store.holds.Reads as holds-reads
+use Rattle.store.proofs.bare.Reads as bare-reads
 use Rattle.twin.proofs.twin.Twin.raw.Reads as raw-reads
 use Rattle.twin.proofs.twin.Twin.step.Reads as step-reads
 

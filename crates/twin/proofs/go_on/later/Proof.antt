@@ -3,7 +3,7 @@ use borrow.Author.Needs.{needs}
 use Prim.Native.Nat.{_≤_, _-_}
 use Rattle.twin.proofs.go_on.later.Statement.{statement}
 use Rattle.twin.proofs.go_on.later.Tie as tie
-use Rattle.twin.proofs.num.wide.Reads as wide-reads
+use Rattle.plain.proofs.wide.Reads as wide-reads
 
 abbrev Inv-loop : tie.InvT-loop
 Inv-loop hazards object p q₀ q = q ≤ 32
