@@ -14,16 +14,11 @@ fn put(buf: &mut [u8], bytes: [u8; 10]) -> Written
     if buf.len() < 10 {
         return Written::Refused(45);
     }
-    buf[0] = bytes[0];
-    buf[1] = bytes[1];
-    buf[2] = bytes[2];
-    buf[3] = bytes[3];
-    buf[4] = bytes[4];
-    buf[5] = bytes[5];
-    buf[6] = bytes[6];
-    buf[7] = bytes[7];
-    buf[8] = bytes[8];
-    buf[9] = bytes[9];
+    let mut i = 0;
+    while i < 10 {
+        buf[i] = bytes[i];
+        i += 1;
+    }
     Written::Done
 }
 

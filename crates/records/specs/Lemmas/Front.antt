@@ -1,10 +1,10 @@
 -- The front of a list written out element by element, for any length and place.
 use Prim.Native.Nat.{ℕ, zero, suc, _+_, _-_, _≤_, _<_}
-use mathlib.Core.Path.{_≡_, sym, ap, _∙_}
-use mathlib.Core.List.{List, [], _∷_, _++_, append-nil}
+use mathlib.Core.Path.{_≡_, ap}
+use mathlib.Core.List.{List, [], _∷_, _++_}
 use native.Mathlib.Nat.{zero-add, add-zero}
 use native.Mathlib.Omega.{arith}
-use lib.ListN.{length, getD, take, drop, length-drop, drop-of-length-le}
+use lib.ListN.{length, getD, take, drop, length-drop}
 use lib.Seq.{drop-cons, take-all, sets, sets-eq}
 
 -- n elements from place i
@@ -24,18 +24,10 @@ run-then-drop l i (suc n) h =
 pub run-front : (l : List ℕ) (n : ℕ) → n ≤ length l → run l 0 n ++ drop n l ≡ l
 run-front l n h = rw zero-add at (run-then-drop l 0 n (omega arith))
 
--- a list of exactly n elements is its first n
-pub run-whole : (l : List ℕ) (n : ℕ) → length l ≡ n → run l 0 n ≡ l
-run-whole l n e =
-    let none : drop n l ≡ [] = drop-of-length-le l {i = n} (omega arith) in
-    sym (append-nil (run l 0 n)) ∙ (rw none at (run-front l n (omega arith)))
-
 -- all that stands after place n, by its count
 pub take-rest : (n : ℕ) (l : List ℕ) → take (length l - n) (drop n l) ≡ drop n l
 take-rest n l = take-all (length l - n) (drop n l) (simp length-drop (omega arith))
 
 -- n elements stored one after the other from the front of a list that has room for them
-pub stored : (n : ℕ) (vs l : List ℕ) → length vs ≡ n → n ≤ length l → sets l 0 (run vs 0 n) ≡ vs ++ drop n l
-stored n vs l e h =
-    rw (run-whole vs n e)
-    (rw (zero-add, e) at (sets-eq vs l 0 (rw (zero-add, e) h)))
+pub stored : (n : ℕ) (vs l : List ℕ) → length vs ≡ n → n ≤ length l → sets l 0 vs ≡ vs ++ drop n l
+stored n vs l e h = rw (zero-add, e) at (sets-eq vs l 0 (rw (zero-add, e) h))

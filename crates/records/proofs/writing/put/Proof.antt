@@ -1,108 +1,76 @@
--- `records::writing::put` meets its contract: ten stores one after the other are the ten bytes and then what stood after the tenth.
+-- `records::writing::put` meets its contract. The invariant: storing what is left from here on gives what storing all would have given.
+use Prim.Native.Nat.{_-_, _≤_, _<_}
+use mathlib.Core.Path.{_≡_, refl, _∙_}
+use mathlib.Core.List.{[], _∷_}
 use borrow.Author.Needs.{needs}
 use borrow.Author.Tests.{lt-ltb, le-ltb}
 use native.Mathlib.Omega.{arith}
-use lib.ListN.{length-set}
+use native.Mathlib.Numerals.{add-one}
+use lib.ListN.{length, getD, drop, length-set, drop-of-length-le}
+use lib.Seq.{drop-cons, sets}
 use Rattle.records.specs.Lemmas.Front.{stored}
 use Rattle.records.specs.Writing.{answerOf, writtenOf}
 use Rattle.records.proofs.writing.put.Statement.{statement}
 use Rattle.records.proofs.writing.put.Tie as tie
 
-returns : tie.Need-returns
+abbrev Inv-loop : tie.InvT-loop
+Inv-loop buf₀ bytes i₀ buf i =
+    (i ≤ 10) × ((length buf ≡ length buf₀) × (sets buf i (drop i bytes) ≡ sets buf₀ 0 bytes))
+
+abbrev μ-loop : tie.MeasureT-loop
+μ-loop buf₀ bytes i₀ buf i = 10 - i
+
+returns : tie.Need-returns Inv-loop μ-loop
 unfolding answerOf writtenOf
 returns c = (simp (lt-ltb _ _ (c .if1 .taken)), simp (lt-ltb _ _ (c .if1 .taken)))
 
-array-read-buf : tie.Need-array-read-buf
-array-read-buf c = search needs
+loop-holds : tie.Need-loop-holds Inv-loop μ-loop
+loop-holds c = (omega arith, (refl, refl))
 
-slice-write-buf : tie.Need-slice-write-buf
-slice-write-buf c = search needs
+array-read-buf : tie.Need-array-read-buf Inv-loop μ-loop
+array-read-buf c = omega arith
 
-array-read-buf-2 : tie.Need-array-read-buf-2
-array-read-buf-2 c = search needs
+slice-write-buf : tie.Need-slice-write-buf Inv-loop μ-loop
+slice-write-buf c = omega arith
 
-slice-write-buf-2 : tie.Need-slice-write-buf-2
-slice-write-buf-2 c = simp length-set (omega arith)
+add-i : tie.Need-add-i Inv-loop μ-loop
+add-i c = omega arith
 
-array-read-buf-3 : tie.Need-array-read-buf-3
-array-read-buf-3 c = search needs
+loop-less : tie.Need-loop-less Inv-loop μ-loop
+loop-less c = omega arith
 
-slice-write-buf-3 : tie.Need-slice-write-buf-3
-slice-write-buf-3 c = simp length-set (omega arith)
+loop-again : tie.Need-loop-again Inv-loop μ-loop
+loop-again c =
+    let l = c .before .loop in
+    let a = c .before .before .before in
+    let inside : l .i < length (a .args .t2) = omega (arith, a .good .1 .0 .1 .0 .1) in
+    (omega arith, (length-set (l .buf) (l .i) _ ∙ l .inv .1 .0, rw add-one (rw (drop-cons (a .args .t2) (l .i) 0 inside) at (l .inv .1 .1))))
 
-array-read-buf-4 : tie.Need-array-read-buf-4
-array-read-buf-4 c = search needs
+same-length : tie.Need-same-length Inv-loop μ-loop
+same-length c = c .before .loop .inv .1 .0
 
-slice-write-buf-4 : tie.Need-slice-write-buf-4
-slice-write-buf-4 c = simp length-set (omega arith)
-
-array-read-buf-5 : tie.Need-array-read-buf-5
-array-read-buf-5 c = search needs
-
-slice-write-buf-5 : tie.Need-slice-write-buf-5
-slice-write-buf-5 c = simp length-set (omega arith)
-
-array-read-buf-6 : tie.Need-array-read-buf-6
-array-read-buf-6 c = search needs
-
-slice-write-buf-6 : tie.Need-slice-write-buf-6
-slice-write-buf-6 c = simp length-set (omega arith)
-
-array-read-buf-7 : tie.Need-array-read-buf-7
-array-read-buf-7 c = search needs
-
-slice-write-buf-7 : tie.Need-slice-write-buf-7
-slice-write-buf-7 c = simp length-set (omega arith)
-
-array-read-buf-8 : tie.Need-array-read-buf-8
-array-read-buf-8 c = search needs
-
-slice-write-buf-8 : tie.Need-slice-write-buf-8
-slice-write-buf-8 c = simp length-set (omega arith)
-
-array-read-buf-9 : tie.Need-array-read-buf-9
-array-read-buf-9 c = search needs
-
-slice-write-buf-9 : tie.Need-slice-write-buf-9
-slice-write-buf-9 c = simp length-set (omega arith)
-
-array-read-buf-10 : tie.Need-array-read-buf-10
-array-read-buf-10 c = search needs
-
-slice-write-buf-10 : tie.Need-slice-write-buf-10
-slice-write-buf-10 c = simp length-set (omega arith)
-
-same-length : tie.Need-same-length
-same-length c = simp length-set
-
-returns-2 : tie.Need-returns-2
+returns-2 : tie.Need-returns-2 Inv-loop μ-loop
 unfolding answerOf writtenOf
-returns-2 c = (simp (le-ltb _ _ (c .if1 .left)), simp (le-ltb _ _ (c .if1 .left)) (stored 10 (c .before .args .t2) (c .before .args .buf .now) (c .before .good .1 .0 .1 .0 .1) (c .if1 .left)))
+returns-2 c =
+    let l = c .before .loop in
+    let a = c .before .before .before in
+    let ten = a .good .1 .0 .1 .0 .1 in
+    let room = c .before .before .if1 .left in
+    let none = drop-of-length-le (a .args .t2) {i = l .i} (omega (arith, ten)) in
+    (simp (le-ltb _ _ room), simp (le-ltb _ _ room) (rw none at (l .inv .1 .1) ∙ stored 10 (a .args .t2) (a .args .buf .now) ten room))
 
 pub put-spec : {M : Type 1} → statement M
 put-spec =
     tie.close
     (tie.spec
+    Inv-loop
+    μ-loop
     returns
+    loop-holds
     array-read-buf
     slice-write-buf
-    array-read-buf-2
-    slice-write-buf-2
-    array-read-buf-3
-    slice-write-buf-3
-    array-read-buf-4
-    slice-write-buf-4
-    array-read-buf-5
-    slice-write-buf-5
-    array-read-buf-6
-    slice-write-buf-6
-    array-read-buf-7
-    slice-write-buf-7
-    array-read-buf-8
-    slice-write-buf-8
-    array-read-buf-9
-    slice-write-buf-9
-    array-read-buf-10
-    slice-write-buf-10
+    add-i
+    loop-less
+    loop-again
     same-length
     returns-2)
