@@ -1,13 +1,7 @@
 -- The promises are not true for an empty reason, and their numbers are no larger than they must be. Reached has runs at demand 3's bound,
 -- Starving runs that one object more would have saved, Caught one for each trap on which demand 3 fails, and Explained a state for each
--- reason that request 1 names. WorkedRun, Stops, PulledCard and Texts are what is printed and packed, computed. Unchecked and Printing are how
--- these compute.
+-- reason that request 1 names. Unchecked is how these compute.
 pub mod Unchecked
-pub mod Printing
-pub mod WorkedRun
-pub mod Stops
-pub mod PulledCard
-pub mod Texts
 pub mod Reached
 pub mod Starving
 pub mod Caught

@@ -5,7 +5,7 @@ use mathlib.Core.List.{List, [], _∷_, _++_, map}
 use Rattle.lines.specs.Line.{Line, numbers, end, stop}
 use Rattle.lines.specs.Run.{linesOf}
 use Rattle.schedule.specs.Input.{inputOf}
-use Rattle.witness.specs.Printing.{quickLines, lines-quick, printing}
+use Rattle.worked.specs.Printing.{quickLines, lines-quick, printing}
 
 pub record Row : Type 0 where
   pub input : List ℕ

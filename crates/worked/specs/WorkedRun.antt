@@ -8,7 +8,7 @@ use Rattle.basics.specs.Ascii.{ascii}
 use Rattle.lines.specs.Line.{Line, numbers, end, bytesOf, text}
 use Rattle.lines.specs.Run.{linesOf, textOf}
 use Rattle.schedule.specs.Input.{inputOf}
-use Rattle.witness.specs.Printing.{quickLines, lines-quick, printing}
+use Rattle.worked.specs.Printing.{quickLines, lines-quick, printing}
 
 -- sizes 2 1 1 2, then the 21 steps as records
 unfoldable pub schedule : List ℕ

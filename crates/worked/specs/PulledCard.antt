@@ -11,7 +11,7 @@ use Rattle.text.specs.Words.{filled}
 use Rattle.sentences.specs.Sentence.{threadOf, slotOf, guardWords, reasonWords, hazardWords, lineOf}
 use Rattle.sentences.specs.Told.{linesFrom, linesOf, textOf}
 use Rattle.schedule.specs.Input.{inputOf}
-use Rattle.witness.specs.Printing.{quickSentences, sentences-quick, printing}
+use Rattle.worked.specs.Printing.{quickSentences, sentences-quick, printing}
 
 -- sizes 2 1 1 2, then the first 16 steps as records
 unfoldable pub schedule : List ℕ
