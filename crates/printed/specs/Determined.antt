@@ -1,10 +1,10 @@
 -- "Any two results allowed by it are proved the same", for the public functions whose law does not stand with them: `machine`'s are in `laws`,
 -- those of `records` and `reasons` in their own Promise.
-use Prim.Native.Nat.{ℕ, _*_}
+use Prim.Native.Nat.{ℕ, _+_, _*_}
 use mathlib.Core.Path.{_≡_}
 use mathlib.Core.Bool.{_&&_}
 use mathlib.Core.List.{List, map}
-use lib.ListN.{length, getD, replicate}
+use lib.ListN.{length, getD, drop, replicate}
 use Rattle.basics.specs.Counts.{bit, howMany}
 use Rattle.basics.specs.Functions.{allowed-once}
 use Rattle.basics.specs.Under.{allUnder}
@@ -25,6 +25,10 @@ use Rattle.schedule.specs.Opening.{openedOf}
 use Rattle.schedule.specs.Going as going
 use Rattle.lines.specs.Lent as lines
 use Rattle.sentences.specs.Lent as sentences
+use Rattle.words.specs.declared.Run.{Run}
+use Rattle.words.specs.Words.{runOf, wordAt, bytesOf}
+use Rattle.words.specs.Numbers.{byteOf}
+use Rattle.words.specs.Fields.{operationOf, byteOrZero, slotOf, tagOf}
 use Rattle.script.specs.Packing.{put, packOf}
 
 -- "the result is f of the argument" allows one result
@@ -65,6 +69,32 @@ put-line-once numbers place = lent-once _ _
 
 pub put-filled-once : (template numbers : List ℕ) → PutOnce (3 * length template) (filled template numbers)
 put-filled-once template numbers place = lent-once _ _
+
+-- ---- words
+
+pub past-once : (run : Run) (at : ℕ) → Once (λ (text : List ℕ). at + runOf run (drop at text))
+past-once run at = allowed-once _
+
+pub word-at-once : (text : List ℕ) → Once (wordAt text)
+word-at-once text = allowed-once _
+
+pub bytes-of-once : (text : List ℕ) → Once (bytesOf text)
+bytes-of-once text = allowed-once _
+
+pub byte-once : Once byteOf
+byte-once = allowed-once _
+
+pub operation-of-once : Once operationOf
+operation-of-once = allowed-once _
+
+pub byte-or-zero-once : Once byteOrZero
+byte-or-zero-once = allowed-once _
+
+pub slot-of-once : (operation : ℕ) → Once (slotOf operation)
+slot-of-once operation = allowed-once _
+
+pub tag-of-once : Once tagOf
+tag-of-once = allowed-once _
 
 -- ---- schedule
 

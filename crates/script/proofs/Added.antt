@@ -8,7 +8,7 @@ use borrow.Author.Tests.{ltb-false}
 use lib.ListN.{length}
 use lib.Dec.{ltb}
 use Rattle.records.specs.Bytes.{sizesBytes, stepBytes, lowFirst}
-use Rattle.script.specs.declared.Why.the-variants.{NoRoom}
+use Rattle.words.specs.declared.Why.the-variants.{NoRoom}
 use Rattle.script.specs.declared.Line.{Line}
 use Rattle.script.specs.declared.Line.the-variants as line
 use Rattle.script.specs.declared.Took.the-variants.{Full, Bad}

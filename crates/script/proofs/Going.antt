@@ -7,7 +7,7 @@ use borrow.Author.Tests.{lt-ltb, le-ltb, eq-eqb, ne-eqb}
 use lib.ListN.{length, take, drop}
 use lib.Seq.{length-take-le, drop-drop}
 use lib.Dec.{ltb, eqb}
-use Rattle.script.specs.declared.Why.the-variants.{NoSizes}
+use Rattle.words.specs.declared.Why.the-variants.{NoSizes}
 use Rattle.script.specs.declared.Fault.{Fault}
 use Rattle.script.specs.declared.Line.{Line}
 use Rattle.script.specs.declared.Took.{Took}

@@ -5,14 +5,14 @@ use mathlib.Core.Bool.{Bool, cond}
 use lib.Dec.{eqb}
 use Rattle.records.specs.declared.SizesRecord.{SizesRecord}
 use Rattle.records.specs.declared.StepRecord.{StepRecord}
-use Rattle.script.specs.declared.Word.{Word}
+use Rattle.words.specs.declared.Word.{Word}
 use Rattle.script.specs.declared.Place.the-variants as place
 use Rattle.script.specs.declared.Rest.the-variants.{From}
 use Rattle.script.specs.declared.Field.{Field}
 use Rattle.script.specs.declared.Tag.{Tag}
 use Rattle.script.specs.declared.Line.{Line}
 use Rattle.script.specs.declared.Line.the-variants.{Nothing, Sizes, Step}
-use Rattle.script.specs.Words.{wordAt}
+use Rattle.words.specs.Words.{wordAt}
 use Rattle.script.specs.Reading.{byteAt, operationAt, slotAt, linkAt, tagAt, endedOf}
 
 -- "a line of four sizes"

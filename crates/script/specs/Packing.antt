@@ -5,8 +5,8 @@ use mathlib.Core.Bool.{Bool, cond}
 use lib.ListN.{length, take, drop}
 use lib.Dec.{eqb, ltb}
 use Rattle.records.specs.Bytes.{sizesBytes, stepBytes}
-use Rattle.script.specs.declared.Why.{Why}
-use Rattle.script.specs.declared.Why.the-variants.{NoSizes, NoRoom}
+use Rattle.words.specs.declared.Why.{Why}
+use Rattle.words.specs.declared.Why.the-variants.{NoSizes, NoRoom}
 use Rattle.script.specs.declared.Place.the-variants.{Whole}
 use Rattle.script.specs.declared.Fault.{Fault}
 use Rattle.script.specs.declared.Line.{Line}
@@ -15,8 +15,8 @@ use Rattle.script.specs.declared.Took.{Took}
 use Rattle.script.specs.declared.Took.the-variants.{Full, Bad}
 use Rattle.script.specs.declared.Packed.{Packed}
 use Rattle.script.specs.declared.Packed.the-variants as packed
-use Rattle.script.specs.declared.Run.the-variants as run
-use Rattle.script.specs.Words.{runOf}
+use Rattle.words.specs.declared.Run.the-variants as run
+use Rattle.words.specs.Words.{runOf}
 use Rattle.script.specs.Lines.{lineOf}
 
 -- the line after the one from this place on; the text's end is the end of the last

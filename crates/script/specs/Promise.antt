@@ -12,7 +12,7 @@ use lib.Dec.{eqb, ltb}
 use Rattle.records.specs.declared.SizesRecord.{SizesRecord}
 use Rattle.records.specs.declared.StepRecord.{StepRecord}
 use Rattle.records.specs.Bytes.{sizesBytes, stepBytes, lowFirst}
-use Rattle.script.specs.declared.Word.{Word}
+use Rattle.words.specs.declared.Word.{Word}
 use Rattle.script.specs.declared.Place.{Place}
 use Rattle.script.specs.declared.Fault.{Fault}
 use Rattle.script.specs.declared.Rest.{Rest}
@@ -24,7 +24,7 @@ use Rattle.script.specs.declared.Took.{Took}
 use Rattle.script.specs.declared.Took.the-variants.{Full, Bad}
 use Rattle.script.specs.declared.Packed.{Packed}
 use Rattle.script.specs.declared.Packed.the-variants as packed
-use Rattle.script.specs.Words.{wordAt}
+use Rattle.words.specs.Words.{wordAt}
 use Rattle.script.specs.Reading.{withoutMore, endedOf}
 use Rattle.script.specs.Lines.{sizesLine, stepLine, lineOf}
 use Rattle.script.specs.Packing.{addedBy, tookOf, Outcome, finish, goOn, packFrom, packOf}

@@ -3,25 +3,25 @@ use Prim.Native.Nat.{ℕ}
 use mathlib.Core.List.{List}
 use mathlib.Core.Bool.{cond}
 use lib.Dec.{ltb}
-use Rattle.script.specs.declared.Word.{Word}
-use Rattle.script.specs.declared.Why.{Why}
-use Rattle.script.specs.declared.Why.the-variants.{TooMany}
+use Rattle.words.specs.declared.Word.{Word}
+use Rattle.words.specs.declared.Why.{Why}
+use Rattle.words.specs.declared.Why.the-variants.{TooMany}
 use Rattle.script.specs.declared.Place.{Place}
 use Rattle.script.specs.declared.Place.the-variants as place
 use Rattle.script.specs.declared.Fault.{Fault}
-use Rattle.script.specs.declared.Number.{Number}
-use Rattle.script.specs.declared.Number.the-variants as number
-use Rattle.script.specs.declared.Byte.{Byte}
-use Rattle.script.specs.declared.Byte.the-variants as byte
+use Rattle.words.specs.declared.Number.{Number}
+use Rattle.words.specs.declared.Number.the-variants as number
+use Rattle.words.specs.declared.Byte.{Byte}
+use Rattle.words.specs.declared.Byte.the-variants as byte
 use Rattle.script.specs.declared.Rest.{Rest}
 use Rattle.script.specs.declared.Rest.the-variants.{From, Bad}
 use Rattle.script.specs.declared.Field.{Field}
 use Rattle.script.specs.declared.Tag.{Tag}
 use Rattle.script.specs.declared.Line.{Line}
 use Rattle.script.specs.declared.Line.the-variants as line
-use Rattle.script.specs.Words.{wordAt, bytesOf}
-use Rattle.script.specs.Numbers.{byteOf}
-use Rattle.script.specs.Fields.{operationOf, byteOrZero, slotOf, tagOf}
+use Rattle.words.specs.Words.{wordAt, bytesOf}
+use Rattle.words.specs.Numbers.{byteOf}
+use Rattle.words.specs.Fields.{operationOf, byteOrZero, slotOf, tagOf}
 
 abbrev pub fault : Why → Place → Word → Fault
 fault why place word = record { why = why; place = place; word = word }

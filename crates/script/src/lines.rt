@@ -8,9 +8,9 @@ use crate::reading::link_at;
 use crate::reading::operation_at;
 use crate::reading::slot_at;
 use crate::reading::tag_at;
-use crate::words::word_at;
 use records::SizesRecord;
 use records::StepRecord;
+use words::finding::word_at;
 ghost use mathlib.Core.Path.{_≡_};
 ghost use Rattle.script.specs.Lines.{sizesLine, stepLine, lineOf};
 

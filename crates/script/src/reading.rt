@@ -1,21 +1,21 @@
 // Reads the next field of a line. Where a field before it was wrong, nothing is read and that fault stays.
-use crate::Byte;
 use crate::Fault;
 use crate::Field;
 use crate::Line;
-use crate::Number;
 use crate::Place;
 use crate::Rest;
 use crate::Tag;
-use crate::Why;
-use crate::Word;
-use crate::fields::byte_or_zero;
-use crate::fields::operation_of;
-use crate::fields::slot_of;
-use crate::fields::tag_of;
-use crate::numbers::byte;
-use crate::words::bytes_of;
-use crate::words::word_at;
+use words::Byte;
+use words::Number;
+use words::Why;
+use words::Word;
+use words::fields::byte_or_zero;
+use words::fields::operation_of;
+use words::fields::slot_of;
+use words::fields::tag_of;
+use words::finding::bytes_of;
+use words::finding::word_at;
+use words::numbers::byte;
 ghost use mathlib.Core.Path.{_≡_};
 ghost use Rattle.script.specs.Reading.{nextWord, fieldOf, tagFieldOf, byteAt, operationAt, slotAt, linkAt, tagAt, endedOf};
 

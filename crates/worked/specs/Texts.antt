@@ -4,13 +4,13 @@ use mathlib.Core.Path.{_≡_, refl}
 use mathlib.Core.List.{List, [], _∷_}
 use Rattle.basics.specs.Ascii.{ascii}
 use Rattle.records.specs.Bytes.{sizesBytes, stepBytes, lowFirst}
-use Rattle.script.specs.declared.Why.the-variants.{NotOperation}
+use Rattle.words.specs.declared.Why.the-variants.{NotOperation}
+use Rattle.words.specs.Words.{kindOf, goesOn, runOf, wordAt, bytesOf}
+use Rattle.words.specs.Numbers.{isDigit, allDigits, worthAfter, worthOf, fitting, spelled, numberOf, asByte, byteOf}
+use Rattle.words.specs.Names.{sameBytes, ifNamed, namedOf, noSlot}
+use Rattle.words.specs.Fields.{operationOf, byteOrZero, slotOf, tagOf}
 use Rattle.script.specs.declared.Place.the-variants.{Operation}
 use Rattle.script.specs.declared.Packed.the-variants.{Done, Bad}
-use Rattle.script.specs.Words.{kindOf, goesOn, runOf, wordAt, bytesOf}
-use Rattle.script.specs.Numbers.{isDigit, allDigits, worthAfter, worthOf, fitting, spelled, numberOf, asByte, byteOf}
-use Rattle.script.specs.Names.{sameBytes, ifNamed, namedOf, noSlot}
-use Rattle.script.specs.Fields.{operationOf, byteOrZero, slotOf, tagOf}
 use Rattle.script.specs.Reading.{nextWord, fieldOf, tagFieldOf, byteAt, operationAt, slotAt, linkAt, tagAt, withoutMore, endedOf}
 use Rattle.script.specs.Lines.{sizesLine, stepLine, lineOf}
 use Rattle.script.specs.Packing.{nextLine, addedBy, tookOf, Outcome, finish, goOn, packFrom, packOf}

@@ -1,0 +1,4 @@
+pub mod Words
+pub mod Numbers
+pub mod Names
+pub mod Fields
