@@ -4,5 +4,3 @@ pub mod Phases
 pub mod Entries
 pub mod Facts
 pub mod PhaseFacts
-pub mod Tally
-pub mod Counting

@@ -1,24 +1,17 @@
-// What a state is made of: the sizes, a thread, a slot; whether their numbers are in range; and how often an object stands in them.
+// What a state is made of: the sizes, a thread, a slot; and whether their numbers are in range.
 mod good;
-mod places;
 mod ranges;
-mod tally;
 
 pub use good::links_good;
 pub use good::slots_good;
 pub use good::tags_good;
 pub use good::threads_good;
-pub use places::are_carried;
-pub use places::in_handovers;
-pub use places::in_hands;
-pub use places::in_links;
 pub use ranges::carried;
 pub use ranges::in_range;
 pub use ranges::is_idle;
 pub use ranges::returns_to;
 pub use ranges::scan_position;
 pub use ranges::sizes_good;
-pub use tally::counts_of;
 
 pub struct Sizes {
     pub threads: u8,

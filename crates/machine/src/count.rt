@@ -3,10 +3,10 @@ use crate::Counted;
 use crate::Places;
 use crate::State;
 use crate::Verdict;
-use entries::are_carried;
-use entries::in_handovers;
-use entries::in_hands;
-use entries::in_links;
+use places::are_carried;
+use places::in_handovers;
+use places::in_hands;
+use places::in_links;
 ghost use mathlib.Core.Path.{_≡_};
 ghost use Rattle.machine.specs.Count.{countOf};
 

@@ -1,11 +1,11 @@
 // The soundness check, for any state.
 use crate::State;
-use entries::counts_of;
 use entries::links_good;
 use entries::sizes_good;
 use entries::slots_good;
 use entries::tags_good;
 use entries::threads_good;
+use places::counts_of;
 ghost use mathlib.Core.Path.{_≡_};
 ghost use Rattle.machine.specs.Soundness.{sound};
 

@@ -16,7 +16,7 @@ use Rattle.entries.specs.declared.Slot.{Slot}
 use Rattle.entries.specs.Sizes.{inRange}
 use Rattle.entries.specs.Phases.{isIdle, carriedBy, scansAt, returnsTo}
 use Rattle.entries.specs.Entries.{idleThread, emptySlot, isObject, sizesGood, linkGood, threadGood, slotGood, tagGood}
-use Rattle.entries.specs.Tally.{tallied}
+use Rattle.places.specs.Tally.{tallied}
 use Rattle.text.specs.Decimal.{decimal}
 use Rattle.text.specs.Fields.{joined}
 use Rattle.text.specs.Words.{filled}

@@ -15,8 +15,8 @@ use Rattle.entries.specs.declared.Thread.{Thread}
 use Rattle.entries.specs.declared.Slot.{Slot}
 use Rattle.entries.specs.Phases.{carriedBy}
 use Rattle.entries.specs.Facts.{bounds}
-use Rattle.entries.specs.Tally.{tallied}
-use Rattle.entries.specs.Counting.{nothing-at, length-tallied, tallied-at}
+use Rattle.places.specs.Tally.{tallied}
+use Rattle.places.specs.Counting.{nothing-at, length-tallied, tallied-at}
 use Rattle.pool.specs.Pool.{eachOnce}
 use Rattle.machine.specs.declared.State.{State}
 use Rattle.machine.specs.Parts.{freeAt}

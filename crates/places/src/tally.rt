@@ -1,13 +1,13 @@
 // How often each object stands in a link, a hand, a handover or is carried: one pass over the places, a count per object.
-use crate::Slot;
-use crate::Thread;
-use crate::ranges::carried;
 use basics::wide;
+use entries::Slot;
+use entries::Thread;
+use entries::carried;
 ghost use mathlib.Core.Path.{_≡_};
 ghost use Prim.Native.Nat.{ℕ, _≤_, _<_};
 ghost use lib.ListN.{length, getD, replicate};
 ghost use Rattle.entries.specs.Phases.{carriedBy};
-ghost use Rattle.entries.specs.Tally.{tally, tallied};
+ghost use Rattle.places.specs.Tally.{tally, tallied};
 
 // 0 is no object, and a number above 240 has no count: the range tests refuse it.
 fn count_one(counts: &mut [u8; 240], object: u8)

@@ -3,13 +3,13 @@ use Prim.Native.Nat.{_≤_, _-_}
 use mathlib.Core.Path.{_≡_, refl}
 use native.Mathlib.Omega.{arith}
 use lib.ListN.{length, take}
 use Rattle.entries.specs.declared.Slot.{Slot}
 use Rattle.basics.specs.Counts.{howMany}
 use Rattle.entries.specs.Entries.{emptySlot, isObject}
 use Rattle.basics.specs.Counts.{count-next, count-more, count-all}
 use borrow.Author.Needs.{needs}
-use Rattle.entries.proofs.places.in_handovers.Statement.{statement}
-use Rattle.entries.proofs.places.in_handovers.Tie as tie
+use Rattle.places.proofs.counting.in_handovers.Statement.{statement}
+use Rattle.places.proofs.counting.in_handovers.Tie as tie
 
 abbrev Inv-loop : tie.InvT-loop
 Inv-loop slots n₀ i₀ n i = (i ≤ 32) × (n ≡ howMany (λ (slot : Slot). isObject (slot .handover)) (take i slots))

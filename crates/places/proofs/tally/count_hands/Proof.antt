@@ -3,13 +3,13 @@ use Prim.Native.Nat.{_≤_, _-_}
 use mathlib.Core.Path.{_≡_, refl}
 use native.Mathlib.Omega.{arith}
 use lib.ListN.{length, take}
 use Rattle.entries.specs.declared.Thread.{Thread}
 use Rattle.entries.specs.Entries.{idleThread}
-use Rattle.entries.specs.Tally.{tallied}
-use Rattle.entries.specs.Counting.{room, counted, all-counted}
+use Rattle.places.specs.Tally.{tallied}
+use Rattle.places.specs.Counting.{room, counted, all-counted}
 use borrow.Author.Needs.{needs}
-use Rattle.entries.proofs.tally.count_hands.Statement.{statement}
-use Rattle.entries.proofs.tally.count_hands.Tie as tie
+use Rattle.places.proofs.tally.count_hands.Statement.{statement}
+use Rattle.places.proofs.tally.count_hands.Tie as tie
 
 abbrev Inv-loop : tie.InvT-loop
 Inv-loop counts₀ threads i₀ counts i = (i ≤ 8) × (counts ≡ tallied (λ thread. thread .hand) (take i threads) counts₀)

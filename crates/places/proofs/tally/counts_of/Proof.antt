@@ -3,13 +3,13 @@ use mathlib.Core.Path.{_≡_, ap, _∙_}
 use native.Mathlib.Omega.{arith}
 use lib.ListN.{length}
 use borrow.Author.Needs.{needs}
 use Rattle.entries.specs.declared.Thread.{Thread}
 use Rattle.entries.specs.declared.Slot.{Slot}
 use Rattle.entries.specs.Phases.{carriedBy}
-use Rattle.entries.specs.Tally.{tallied}
-use Rattle.entries.specs.Counting.{Counts, none-counted, more-counted, enough}
-use Rattle.entries.proofs.tally.counts_of.Statement.{statement}
-use Rattle.entries.proofs.tally.counts_of.Tie as tie
+use Rattle.places.specs.Tally.{tallied}
+use Rattle.places.specs.Counting.{Counts, none-counted, more-counted, enough}
+use Rattle.places.proofs.tally.counts_of.Statement.{statement}
+use Rattle.places.proofs.tally.counts_of.Tie as tie
 
 after-links : (c : tie.After-count-links) → Counts 16 (c .count-links .last .0)
 after-links c =

@@ -3,13 +3,13 @@ use Prim.Native.Nat.{_≤_, _-_}
 use mathlib.Core.Path.{_≡_, refl}
 use native.Mathlib.Omega.{arith}
 use lib.ListN.{length, take}
 use Rattle.entries.specs.declared.Slot.{Slot}
 use Rattle.entries.specs.Entries.{emptySlot}
-use Rattle.entries.specs.Tally.{tallied}
-use Rattle.entries.specs.Counting.{room, counted, all-counted}
+use Rattle.places.specs.Tally.{tallied}
+use Rattle.places.specs.Counting.{room, counted, all-counted}
 use borrow.Author.Needs.{needs}
-use Rattle.entries.proofs.tally.count_handovers.Statement.{statement}
-use Rattle.entries.proofs.tally.count_handovers.Tie as tie
+use Rattle.places.proofs.tally.count_handovers.Statement.{statement}
+use Rattle.places.proofs.tally.count_handovers.Tie as tie
 
 abbrev Inv-loop : tie.InvT-loop
 Inv-loop counts₀ slots i₀ counts i = (i ≤ 32) × (counts ≡ tallied (λ slot. slot .handover) (take i slots) counts₀)

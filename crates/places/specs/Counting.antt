@@ -11,7 +11,7 @@ use lib.Seq.{getD-set-same, getD-set-other, set-out, take-all}
 use lib.Dec.{eqb, ltb, eqb·zero-suc, eqb·suc-zero, eqb·suc-suc}
 use borrow.Author.Tests.{eqb-true, eqb-false, ne-eqb, ltb-true, ltb-false}
 use Rattle.basics.specs.Counts.{bit, occurrences}
-use Rattle.entries.specs.Tally.{tally, tallied}
+use Rattle.places.specs.Tally.{tally, tallied}
 use Rattle.basics.specs.Counts.{occurrences-most}
 
 pub length-tally : (counts : List ℕ) (o : ℕ) → length (tally counts o) ≡ length counts

@@ -3,11 +3,11 @@ use Prim.Native.Nat.{_-_}
 use mathlib.Core.Path.{sym}
 use native.Mathlib.Omega.{arith}
 use borrow.Author.Tests.{eq-eqb, ne-eqb}
-use Rattle.entries.specs.Tally.{tally}
-use Rattle.entries.specs.Counting.{tally-past}
+use Rattle.places.specs.Tally.{tally}
+use Rattle.places.specs.Counting.{tally-past}
 use borrow.Author.Needs.{needs}
-use Rattle.entries.proofs.tally.count_one.Statement.{statement}
-use Rattle.entries.proofs.tally.count_one.Tie as tie
+use Rattle.places.proofs.tally.count_one.Statement.{statement}
+use Rattle.places.proofs.tally.count_one.Tie as tie
 
 returns : tie.Need-returns
 unfolding tally

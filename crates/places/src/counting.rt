@@ -1,12 +1,12 @@
 // How many objects stand in the links, in the hands and in the handovers, and how many are carried.
-use crate::Slot;
-use crate::Thread;
-use crate::ranges::carried;
 use basics::bit;
+use entries::Slot;
+use entries::Thread;
+use entries::carried;
 ghost use mathlib.Core.Path.{_≡_};
 ghost use Rattle.entries.specs.Phases.{carriedBy};
 ghost use Rattle.basics.specs.Counts.{howMany};
 ghost use Rattle.entries.specs.Entries.{isObject};
 
 pub fn in_links(links: [u8; 16]) -> u8
     ensures { λ r. ⌜ r ≡ howMany isObject links ⌝ }

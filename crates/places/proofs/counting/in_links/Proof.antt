@@ -4,11 +4,11 @@ use mathlib.Core.Path.{_≡_, refl}
 use native.Mathlib.Omega.{arith}
 use lib.ListN.{length, take}
 use Rattle.basics.specs.Counts.{howMany}
 use Rattle.entries.specs.Entries.{isObject}
 use Rattle.basics.specs.Counts.{count-next, count-more, count-all}
 use borrow.Author.Needs.{needs}
-use Rattle.entries.proofs.places.in_links.Statement.{statement}
-use Rattle.entries.proofs.places.in_links.Tie as tie
+use Rattle.places.proofs.counting.in_links.Statement.{statement}
+use Rattle.places.proofs.counting.in_links.Tie as tie
 
 abbrev Inv-loop : tie.InvT-loop
 Inv-loop links n₀ i₀ n i = (i ≤ 16) × (n ≡ howMany isObject (take i links))

@@ -3,11 +3,11 @@ use Prim.Native.Nat.{ℕ, _≤_, _-_}
 use mathlib.Core.Path.{_≡_, refl}
 use native.Mathlib.Omega.{arith}
 use lib.ListN.{length, take}
-use Rattle.entries.specs.Tally.{tallied}
-use Rattle.entries.specs.Counting.{room, counted, all-counted}
+use Rattle.places.specs.Tally.{tallied}
+use Rattle.places.specs.Counting.{room, counted, all-counted}
 use borrow.Author.Needs.{needs}
-use Rattle.entries.proofs.tally.count_links.Statement.{statement}
-use Rattle.entries.proofs.tally.count_links.Tie as tie
+use Rattle.places.proofs.tally.count_links.Statement.{statement}
+use Rattle.places.proofs.tally.count_links.Tie as tie
 
 abbrev Inv-loop : tie.InvT-loop
 Inv-loop counts₀ links i₀ counts i = (i ≤ 16) × (counts ≡ tallied (λ link. link) (take i links) counts₀)
