@@ -3,9 +3,9 @@ use Prim.Native.Nat.{ℕ, zero, suc, _+_, _≤_, _<_}
 use native.Mathlib.Nat.{not-suc-le-zero, le-of-suc-le-suc, min-le-left}
 use native.Mathlib.Numerals.{add-one}
 use native.Mathlib.Omega.{arith}
-use mathlib.Core.Path.{_≡_, refl, ap, _∙_}
+use mathlib.Core.Path.{_≡_, refl, sym, ap, _∙_}
 use mathlib.Core.Bool.{Bool, true, false}
-use mathlib.Core.List.{List, [], _∷_}
+use mathlib.Core.List.{List, [], _∷_, _++_, map}
 use lib.ListN.{length, getD, set, take, replicate, length-take}
 use lib.Seq.{take-all}
 use lib.Dec.{eqb, eqb·zero-suc}
@@ -25,6 +25,11 @@ howMany test (x ∷ xs) = bit (test x) + howMany test xs
 unfoldable pub occurrences : {A : Type 0} → (A → ℕ) → ℕ → List A → ℕ
 occurrences f o [] = 0
 occurrences f o (x ∷ xs) = bit (eqb (f x) o) + occurrences f o xs
+
+-- how many of the numbers under n pass the test
+unfoldable pub countUnder : ℕ → (ℕ → Bool) → ℕ
+countUnder zero test = 0
+countUnder (suc n) test = countUnder n test + bit (test n)
 
 pub bit-most : (b : Bool) → bit b ≤ 1
 unfolding bit
@@ -162,6 +167,53 @@ module _ {A : Type 0} (f : A → ℕ) (o : ℕ) where
   none-there [] d none = refl
   none-there (x ∷ xs) d none =
       rw (ne-eqb (f x) o (none 0 (omega arith)), none-there xs d (λ i less. none (suc i) (omega arith)))
+
+pub occurrences-append : {A : Type 0} (f : A → ℕ) (o : ℕ) (xs ys : List A) → occurrences f o (xs ++ ys) ≡ occurrences f o xs + occurrences f o ys
+unfolding occurrences
+occurrences-append f o [] ys = omega arith
+occurrences-append f o (x ∷ xs) ys = let rest = occurrences-append f o xs ys in omega arith
+
+-- where no element from n on is read as o, the first n have them all
+pub occurrences-within : {A : Type 0} (f : A → ℕ) (o : ℕ) (xs : List A) (n : ℕ) (d : A) → ((i : ℕ) → n ≤ i → i < length xs → f (getD xs i d) ≡ o → ⊥)
+    → occurrences f o (take n xs) ≡ occurrences f o xs
+unfolding occurrences
+occurrences-within f o [] zero d none = refl
+occurrences-within f o [] (suc n) d none = refl
+occurrences-within f o (x ∷ xs) zero d none = sym (none-there f o (x ∷ xs) d (λ i less. none i (omega arith) less))
+occurrences-within f o (x ∷ xs) (suc n) d none =
+    ap (λ (m : ℕ). bit (eqb (f x) o) + m) (occurrences-within f o xs n d (λ i past less. none (suc i) (omega arith) (omega arith)))
+
+-- what is read from each element first
+pub occurrences-map : {A : Type 0} (f : A → ℕ) (o : ℕ) (xs : List A) → occurrences (λ number. number) o (map f xs) ≡ occurrences f o xs
+unfolding occurrences
+occurrences-map f o [] = refl
+occurrences-map f o (x ∷ xs) = ap (λ (n : ℕ). bit (eqb (f x) o) + n) (occurrences-map f o xs)
+
+-- A loop that counts the numbers under n one by one: no more than there are, and a turn adds the next.
+
+pub count-under-most : (n : ℕ) (test : ℕ → Bool) → countUnder n test ≤ n
+unfolding countUnder
+count-under-most zero test = omega arith
+count-under-most (suc n) test = omega (arith, count-under-most n test, bit-most (test n))
+
+pub count-under-next : (n : ℕ) (test : ℕ → Bool) {so-far more : ℕ} → so-far ≡ countUnder n test → more ≡ bit (test n) → so-far + more ≡ countUnder (n + 1) test
+unfolding countUnder
+count-under-next n test e m = rw (add-one, e, m)
+
+count-under-front : (n : ℕ) (test : ℕ → Bool) → countUnder (suc n) test ≡ bit (test 0) + countUnder n (λ i. test (suc i))
+unfolding countUnder
+count-under-front zero test = omega arith
+count-under-front (suc n) test = let rest = count-under-front n test in omega arith
+
+-- the elements of a list by their numbers
+pub count-under-list : (xs : List ℕ) (n o : ℕ) → length xs ≡ n → countUnder n (λ i. eqb (getD xs i 0) o) ≡ occurrences (λ number. number) o xs
+unfolding countUnder occurrences
+count-under-list [] zero o long = refl
+count-under-list [] (suc n) o long = absurd (omega arith)
+count-under-list (x ∷ xs) zero o long = absurd (omega arith)
+count-under-list (x ∷ xs) (suc n) o long =
+    count-under-front n (λ i. eqb (getD (x ∷ xs) i 0) o) ∙
+    ap (λ (m : ℕ). bit (eqb x o) + m) (count-under-list xs n o (omega arith))
 
 -- of a list of one value that is read as 0, no number above 0 is
 pub none-in-zeros : {A : Type 0} (f : A → ℕ) (x : A) (k m : ℕ) → f x ≡ 0 → occurrences f (suc k) (replicate m x) ≡ 0

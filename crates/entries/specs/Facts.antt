@@ -79,6 +79,14 @@ pub record SlotFacts (n : ℕ) (slot : Slot) : Type 0 where
 
 -- within the sizes
 module _ (z : Sizes) (i : ℕ) where
+  pub thread-within : (x : Thread) → i < z .threads → threadGood z i x ≡ threadInRange z x
+  unfolding threadGood
+  thread-within x less = rw (lt-ltb i (z .threads) less)
+
+  pub slot-within : (slot : Slot) → i < positions z → slotGood z i slot ≡ slotInRange (z .objects) slot
+  unfolding slotGood
+  slot-within slot less = rw (lt-ltb i (positions z) less)
+
   pub link-good : (object : ℕ) → i < z .links → object ≤ z .objects → linkGood z i object ≡ true
   unfolding linkGood
   link-good object less most = rw (lt-ltb i (z .links) less) (le-leb _ _ most)
@@ -116,6 +124,14 @@ module _ (z : Sizes) (i : ℕ) where
 
 -- beyond them: "entries beyond the sizes are 0, idle or unmarked"
 module _ (z : Sizes) (i : ℕ) where
+  pub thread-beyond : (x : Thread) → z .threads ≤ i → threadGood z i x ≡ threadEmpty x
+  unfolding threadGood
+  thread-beyond x past = rw (le-ltb i (z .threads) past)
+
+  pub slot-beyond : (slot : Slot) → positions z ≤ i → slotGood z i slot ≡ slotEmpty slot
+  unfolding slotGood
+  slot-beyond slot past = rw (le-ltb i (positions z) past)
+
   pub link-empty : (object : ℕ) → z .links ≤ i → linkGood z i object ≡ true → object ≡ 0
   unfolding linkGood
   link-empty object past fine = eqb-true _ _ (rw (le-ltb i (z .links) past) at fine)

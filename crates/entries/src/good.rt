@@ -5,11 +5,12 @@ use crate::Thread;
 use crate::ranges::is_idle;
 use crate::ranges::phase_in_range;
 use crate::ranges::positions;
+use basics::least;
 use basics::wide;
 ghost use mathlib.Core.Path.{_≡_};
 ghost use lib.ListN.{getD};
 ghost use Rattle.basics.specs.Under.{allUnder};
-ghost use Rattle.entries.specs.Entries.{idleThread, emptySlot, linkGood, threadGood, slotInRange, slotEmpty, slotGood, tagGood};
+ghost use Rattle.entries.specs.Entries.{idleThread, emptySlot, linkGood, threadInRange, threadEmpty, threadGood, slotInRange, slotEmpty, slotGood, tagGood};
 
 fn link_good(z: Sizes, i: usize, object: u8) -> bool
     ensures { λ r. ⌜ r ≡ linkGood z i object ⌝ }
@@ -21,16 +22,18 @@ fn link_good(z: Sizes, i: usize, object: u8) -> bool
     }
 }
 
-fn thread_good(z: Sizes, t: usize, thread: Thread) -> bool
-    ensures { λ r. ⌜ r ≡ threadGood z t thread ⌝ }
+fn thread_in_range(z: Sizes, thread: Thread) -> bool
+    ensures { λ r. ⌜ r ≡ threadInRange z thread ⌝ }
 {
-    let hand = thread.hand;
     let phase = thread.phase;
-    if t < wide(z.threads) {
-        hand <= z.objects && phase_in_range(z, phase)
-    } else {
-        hand == 0 && is_idle(phase)
-    }
+    thread.hand <= z.objects && phase_in_range(z, phase)
+}
+
+fn thread_empty(thread: Thread) -> bool
+    ensures { λ r. ⌜ r ≡ threadEmpty thread ⌝ }
+{
+    let phase = thread.phase;
+    thread.hand == 0 && is_idle(phase)
 }
 
 // "a protected mark stands only on a hazard that is not 0"
@@ -63,36 +66,35 @@ fn slot_empty(slot: Slot) -> bool
     slot.handover == 0
 }
 
-fn slot_good(z: Sizes, p: usize, slot: Slot) -> bool
-    ensures { λ r. ⌜ r ≡ slotGood z p slot ⌝ }
+// Every link is looked at, so that many are taken at once.
+pub fn links_good(z: Sizes, links: &[u8; 16]) -> bool
+    ensures { λ r. ⌜ r ≡ allUnder 16 (λ i. linkGood z i (getD (now (links .entry)) i 0)) ⌝ }
 {
-    if p < positions(z) {
-        slot_in_range(z.objects, slot)
-    } else {
-        slot_empty(slot)
-    }
-}
-
-pub fn links_good(z: Sizes, links: [u8; 16]) -> bool
-    ensures { λ r. ⌜ r ≡ allUnder 16 (λ i. linkGood z i (getD links i 0)) ⌝ }
-{
+    let mut good = true;
     let mut i = 0;
     while i < 16 {
-        if !link_good(z, i, links[i]) {
-            return false;
-        }
+        good = good & link_good(z, i, links[i]);
         i += 1;
     }
-    true
+    good
 }
 
+// Those within the sizes, then those beyond them; the first that is wrong decides.
 pub fn threads_good(z: Sizes, threads: [Thread; 8]) -> bool
     ensures { λ r. ⌜ r ≡ allUnder 8 (λ t. threadGood z t (getD threads t idleThread)) ⌝ }
 {
+    let end = least(wide(z.threads), 8);
     let mut t = 0;
+    while t < end {
+        let thread = threads[t];
+        if !thread_in_range(z, thread) {
+            return false;
+        }
+        t += 1;
+    }
     while t < 8 {
         let thread = threads[t];
-        if !thread_good(z, t, thread) {
+        if !thread_empty(thread) {
             return false;
         }
         t += 1;
@@ -103,10 +105,18 @@ pub fn threads_good(z: Sizes, threads: [Thread; 8]) -> bool
 pub fn slots_good(z: Sizes, slots: [Slot; 32]) -> bool
     ensures { λ r. ⌜ r ≡ allUnder 32 (λ p. slotGood z p (getD slots p emptySlot)) ⌝ }
 {
+    let end = least(positions(z), 32);
     let mut p = 0;
+    while p < end {
+        let slot = slots[p];
+        if !slot_in_range(z.objects, slot) {
+            return false;
+        }
+        p += 1;
+    }
     while p < 32 {
         let slot = slots[p];
-        if !slot_good(z, p, slot) {
+        if !slot_empty(slot) {
             return false;
         }
         p += 1;

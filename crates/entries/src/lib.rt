@@ -9,6 +9,7 @@ pub use good::threads_good;
 pub use ranges::carried;
 pub use ranges::in_range;
 pub use ranges::is_idle;
+pub use ranges::positions;
 pub use ranges::returns_to;
 pub use ranges::scan_position;
 pub use ranges::sizes_good;

@@ -55,7 +55,7 @@ pub fn sizes_good(z: Sizes) -> bool
 }
 
 // How many positions there are, for any sizes.
-pub(crate) fn positions(z: Sizes) -> usize
+pub fn positions(z: Sizes) -> usize
     ensures { λ r. ⌜ r ≡ positions z ⌝ }
 {
     wide(z.threads) * wide(z.slots)

@@ -2,14 +2,21 @@
 -- "Threads, slots and links are numbered from 0, objects from 1; 0 means no object."
 use Prim.Native.Nat.{ℕ, _+_, _*_, _-_}
 use mathlib.Core.Bool.{Bool}
+use mathlib.Core.List.{List}
 use lib.ListN.{getD, set}
 use Rattle.machine.specs.declared.State.{State}
+use Rattle.entries.specs.declared.Sizes.{Sizes}
 use Rattle.entries.specs.declared.Thread.{Thread}
 use Rattle.entries.specs.declared.Slot.{Slot}
 use Rattle.entries.specs.declared.Phase.{Phase}
 use Rattle.pool.specs.declared.Pool.{Pool}
 use Rattle.entries.specs.Entries.{thread, idleThread, emptySlot}
-use Rattle.pool.specs.Pool.{isFree}
+use Rattle.pool.specs.Pool.{poolOf, isFree}
+
+-- a state of these parts, the pool by its marks
+abbrev pub ofParts : Sizes → List ℕ → List Thread → List Slot → List Bool → List ℕ → State
+ofParts z links threads slots marks tags =
+    record { sizes = z; links = links; threads = threads; slots = slots; pool = poolOf marks; tags = tags }
 
 -- "per link: an object or 0"
 abbrev pub linkAt : State → ℕ → ℕ

@@ -3,6 +3,7 @@ use crate::Counted;
 use crate::Places;
 use crate::State;
 use crate::Verdict;
+use crate::soundness::parts_sound;
 use places::are_carried;
 use places::in_handovers;
 use places::in_hands;
@@ -15,7 +16,14 @@ impl State {
     pub fn count(self) -> Counted
         ensures { λ r. ⌜ r ≡ countOf self ⌝ }
     {
-        if !self.is_sound() {
+        if !parts_sound(
+            self.sizes,
+            &self.links,
+            self.threads,
+            self.slots,
+            &self.pool.marks,
+            &self.tags,
+        ) {
             return Counted {
                 places: Places {
                     free: 0,

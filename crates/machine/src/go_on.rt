@@ -231,7 +231,8 @@ impl State {
         ensures { λ r. ⌜ r ≡ goOnOf self thread ⌝ }
     {
         let t = thread as usize;
-        let me = self.threads[t];
+        let threads = self.threads;
+        let me = threads[t];
         let phase = me.phase;
         match phase {
             Phase::Idle => Outcome {

@@ -126,7 +126,8 @@ impl State {
             return field;
         }
         let t = call.thread as usize;
-        let me = self.threads[t];
+        let threads = self.threads;
+        let me = threads[t];
         let busy = thread_refusal(me, call.operation);
         if busy != 0 {
             return busy;

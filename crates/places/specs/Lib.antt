@@ -1,3 +1,4 @@
--- The objects in the places, counted: how many of a kind, and how often each.
-pub mod Tally
-pub mod Counting
+-- To believe: Row. To read: Promise. Nobody needs to read Laying.
+pub mod Row
+pub mod Laying
+pub mod Promise

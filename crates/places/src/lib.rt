@@ -1,9 +1,9 @@
-// What stands in the places of a state: how many objects in the places of a kind, and how often each object in all of them.
+// What stands in the places of a state: how many objects in the places of a kind, and the numbers of all of them in one row.
 mod counting;
-mod tally;
+mod row;
 
 pub use counting::are_carried;
 pub use counting::in_handovers;
 pub use counting::in_hands;
 pub use counting::in_links;
-pub use tally::counts_of;
+pub use row::row_of;

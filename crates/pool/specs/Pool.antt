@@ -6,7 +6,7 @@ use mathlib.Core.List.{List, [], _∷_, _++_}
 use lib.ListN.{length, getD, set, replicate}
 use lib.Dec.{leb, ltb, eqb}
 use Rattle.pool.specs.declared.Pool.{Pool}
-use Rattle.basics.specs.Counts.{bit, howMany}
+use Rattle.basics.specs.Counts.{bit, howMany, countUnder}
 use Rattle.basics.specs.Under.{allUnder}
 
 abbrev pub poolOf : List Bool → Pool
@@ -56,6 +56,7 @@ unfoldable pub poolGood : ℕ → Pool → Bool
 poolGood n pool =
     eqb (length (pool .marks)) 240 && allUnder 240 (λ k. ltb k n || not (getD (pool .marks) k false))
 
--- each of the objects 1 to n, 240 at the most, is free or counted, and that once; object k + 1 has its count at k
+-- each of the objects 1 to n, 240 at the most, is free or stands among the 64 numbers, and that once
 unfoldable pub eachOnce : ℕ → Pool → List ℕ → Bool
-eachOnce n pool counts = leb n 240 && allUnder n (λ k. eqb (bit (isFree pool (suc k)) + getD counts k 0) 1)
+eachOnce n pool row =
+    leb n 240 && allUnder n (λ k. eqb (bit (isFree pool (suc k)) + countUnder 64 (λ i. eqb (getD row i 0) (suc k))) 1)

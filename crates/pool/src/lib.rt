@@ -7,9 +7,12 @@ use marks::first_marked;
 use marks::first_on;
 use marks::off_from;
 ghost use mathlib.Core.Path.{_≡_};
-ghost use mathlib.Core.Bool.{_&&_};
+ghost use mathlib.Core.Bool.{false, not, _&&_, _||_};
 ghost use Prim.Native.Nat.{_≤_};
-ghost use Rattle.pool.specs.Pool.{isFree, nextOf, freshPool, takenOut, putBack, freeCount, poolGood, eachOnce};
+ghost use lib.ListN.{getD};
+ghost use lib.Dec.{ltb};
+ghost use Rattle.basics.specs.Under.{allUnder};
+ghost use Rattle.pool.specs.Pool.{poolOf, isFree, nextOf, freshPool, takenOut, putBack, freeCount, eachOnce};
 
 // A mark for each object: object 1 has the first.
 pub struct Pool {
@@ -88,18 +91,18 @@ impl Pool {
     {
         are_on(&self.marks)
     }
+}
 
-    // Whether it is a pool of so many objects, nothing beyond them being free, and each of them is free or counted, and that once: object
-    // k + 1 has its count at k.
-    pub fn is_placed(self, objects: u8, counts: &[u8; 240]) -> bool
-        ensures { λ r. ⌜ r ≡ (poolGood objects self && eachOnce objects self (now (counts .entry))) ⌝ }
-    {
-        if 240 < objects {
-            return false;
-        }
-        if !off_from(objects, &self.marks) {
-            return false;
-        }
-        each_once(objects, &self.marks, counts)
+// Whether these are the marks of a pool of so many objects, nothing beyond them being free, and each of the objects is free or stands
+// among the 64 numbers, and that once. The marks are lent: a pool goes by value, and the check may copy nothing that has 240 entries.
+pub fn are_placed(objects: u8, marks: &[bool; 240], row: &[u8; 64]) -> bool
+    ensures { λ r. ⌜ r ≡ (allUnder 240 (λ k. ltb k objects || not (getD (now (marks .entry)) k false)) && eachOnce objects (poolOf (now (marks .entry))) (now (row .entry))) ⌝ }
+{
+    if 240 < objects {
+        return false;
     }
+    if !off_from(objects, marks) {
+        return false;
+    }
+    each_once(objects, marks, row)
 }

@@ -1,12 +1,13 @@
 // The marks of a pool, one after the other.
 use basics::bit;
+use basics::in_one_place;
 use basics::wide;
 ghost use mathlib.Core.Path.{_≡_};
 ghost use mathlib.Core.Bool.{false, not, _||_};
-ghost use Prim.Native.Nat.{_+_, _≤_};
+ghost use Prim.Native.Nat.{suc, _+_, _≤_};
 ghost use lib.ListN.{length, getD};
 ghost use lib.Dec.{ltb, eqb};
-ghost use Rattle.basics.specs.Counts.{bit, howMany};
+ghost use Rattle.basics.specs.Counts.{bit, countUnder, howMany};
 ghost use Rattle.basics.specs.Under.{allUnder};
 ghost use Rattle.pool.specs.Pool.{marked, firstOn};
 
@@ -67,24 +68,18 @@ pub(crate) fn off_from(n: u8, marks: &[bool; 240]) -> bool
     good
 }
 
-fn once(free: bool, count: u8) -> bool
-    ensures { λ r. ⌜ r ≡ eqb (bit free + count) 1 ⌝ }
-{
-    if free { count == 0 } else { count == 1 }
-}
-
-// "every object 1 to N is in exactly one place": its free mark and its count together are 1. Every object is looked at, so that many are
-// taken at once.
-pub(crate) fn each_once(n: u8, marks: &[bool; 240], counts: &[u8; 240]) -> bool
+// "every object 1 to N is in exactly one place": the places are walked for each, and the first that is in none or in several decides.
+pub(crate) fn each_once(n: u8, marks: &[bool; 240], row: &[u8; 64]) -> bool
     requires { ⌜ n ≤ 240 ⌝ }
-    ensures { λ r. ⌜ r ≡ allUnder n (λ k. eqb (bit (getD (now (marks .entry)) k false) + getD (now (counts .entry)) k 0) 1) ⌝ }
+    ensures { λ r. ⌜ r ≡ allUnder n (λ k. eqb (bit (getD (now (marks .entry)) k false) + countUnder 64 (λ i. eqb (getD (now (row .entry)) i 0) (suc k))) 1) ⌝ }
 {
     let end = wide(n);
-    let mut good = true;
-    let mut k = 0;
-    while k < end {
-        good = good & once(marks[k], counts[k]);
-        k += 1;
+    let mut passed = 0;
+    while passed < end {
+        if !in_one_place(passed as u8 + 1, marks[passed], row) {
+            return false;
+        }
+        passed += 1;
     }
-    good
+    true
 }

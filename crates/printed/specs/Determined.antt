@@ -1,22 +1,23 @@
 -- "Any two results allowed by it are proved the same", for the public functions whose law does not stand with them: `machine`'s are in `laws`,
 -- those of `records` and `reasons` in their own Promise.
-use Prim.Native.Nat.{ℕ, _+_, _*_}
+use Prim.Native.Nat.{ℕ, _+_, _*_, min}
 use mathlib.Core.Path.{_≡_}
-use mathlib.Core.Bool.{_&&_}
+use mathlib.Core.Bool.{Bool, false, not, _&&_, _||_}
 use mathlib.Core.List.{List, map}
-use lib.ListN.{length, getD, drop, replicate}
-use Rattle.basics.specs.Counts.{bit, howMany}
+use lib.ListN.{length, getD, drop}
+use lib.Dec.{ltb, eqb}
+use Rattle.basics.specs.Counts.{bit, howMany, countUnder}
 use Rattle.basics.specs.Functions.{allowed-once}
 use Rattle.basics.specs.Under.{allUnder}
 use Rattle.pool.specs.declared.Pool.{Pool}
-use Rattle.pool.specs.Pool.{isFree, nextOf, freshPool, takenOut, putBack, freeCount, poolGood, eachOnce}
+use Rattle.pool.specs.Pool.{poolOf, isFree, nextOf, freshPool, takenOut, putBack, freeCount, eachOnce}
 use Rattle.entries.specs.declared.Sizes.{Sizes}
 use Rattle.entries.specs.declared.Thread.{Thread}
 use Rattle.entries.specs.declared.Slot.{Slot}
-use Rattle.entries.specs.Sizes.{inRange}
+use Rattle.entries.specs.Sizes.{inRange, positions}
 use Rattle.entries.specs.Phases.{isIdle, carriedBy, scansAt, returnsTo}
 use Rattle.entries.specs.Entries.{idleThread, emptySlot, isObject, sizesGood, linkGood, threadGood, slotGood, tagGood}
-use Rattle.places.specs.Tally.{tallied}
+use Rattle.places.specs.Row.{rowOf}
 use Rattle.text.specs.Decimal.{decimal}
 use Rattle.text.specs.Fields.{joined}
 use Rattle.text.specs.Words.{filled}
@@ -112,6 +113,9 @@ in-range-once = allowed-once _
 pub sizes-good-once : Once sizesGood
 sizes-good-once = allowed-once _
 
+pub positions-once : Once positions
+positions-once = allowed-once _
+
 pub is-idle-once : Once isIdle
 is-idle-once = allowed-once _
 
@@ -148,14 +152,8 @@ in-handovers-once = allowed-once _
 pub are-carried-once : Once (howMany (λ (thread : Thread). isObject (carriedBy (thread .phase))))
 are-carried-once = allowed-once _
 
-pub counts-of-once :
-    (links : List ℕ) (threads : List Thread)
-    → Once (λ (slots : List Slot).
-    tallied (λ (thread : Thread). carriedBy (thread .phase)) threads
-    (tallied (λ (slot : Slot). slot .handover) slots
-    (tallied (λ (thread : Thread). thread .hand) threads
-    (tallied (λ (link : ℕ). link) links (replicate 240 0)))))
-counts-of-once links threads = allowed-once _
+pub row-of-once : (z : Sizes) (links : List ℕ) (threads : List Thread) → Once (rowOf z links threads)
+row-of-once z links threads = allowed-once _
 
 -- ---- pool
 
@@ -177,13 +175,22 @@ put-back-once pool = allowed-once _
 pub count-once : Once freeCount
 count-once = allowed-once _
 
-pub is-placed-once : (pool : Pool) (objects : ℕ) → Once (λ (counts : List ℕ). poolGood objects pool && eachOnce objects pool counts)
-is-placed-once pool objects = allowed-once _
+pub are-placed-once :
+    (objects : ℕ) (marks : List Bool)
+    → Once (λ (row : List ℕ).
+    allUnder 240 (λ k. ltb k objects || not (getD marks k false)) && eachOnce objects (poolOf marks) row)
+are-placed-once objects marks = allowed-once _
 
 -- ---- basics
 
 pub bit-once : Once bit
 bit-once = allowed-once _
+
+pub least-once : (a : ℕ) → Once (min a)
+least-once a = allowed-once _
+
+pub in-one-place-once : (object : ℕ) (free : Bool) → Once (λ (row : List ℕ). eqb (bit free + countUnder 64 (λ i. eqb (getD row i 0) object)) 1)
+in-one-place-once object free = allowed-once _
 
 pub wide-once : Once {A = ℕ} (λ x. x)
 wide-once = allowed-once _

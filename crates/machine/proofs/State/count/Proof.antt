@@ -7,7 +7,7 @@ use Rattle.machine.proofs.State.count.Tie as tie
 
 returns : tie.Need-returns
 unfolding countOf
-returns c = rw (refused (c .before .is-sound .ensures) (c .if1 .taken))
+returns c = rw (refused (c .before .parts-sound .ensures) (c .if1 .taken))
 
 returns-2 : tie.Need-returns-2
 unfolding countOf fivePlaces
@@ -15,7 +15,7 @@ returns-2 c =
     let links = c .before .before .before in
     let good = links .before .before .before .before .before .before in
     rw (
-      passed (good .before .is-sound .ensures) (good .if1 .left),
+      passed (good .before .parts-sound .ensures) (good .if1 .left),
       c .are-carried .ensures,
       c .before .in-handovers .ensures,
       c .before .before .in-hands .ensures,

@@ -14,26 +14,26 @@ use Rattle.machine.proofs.State.go_on.Statement.{statement}
 use Rattle.machine.proofs.State.go_on.Tie as tie
 
 module _ (c : tie.Start) where
-  ranged : Ranged (c .args .t1)
+  ranged : Ranged (c .args .self)
   ranged = to-sound _ (c .pre .0) .ranged
 
   small : c .args .thread < 8
   small = thread-eight _ ranged _ (c .pre .1)
 
-  inside : (slot : ℕ) → slot < c .args .t1 .sizes .slots → positionOf (c .args .t1) (c .args .thread) slot < 32
+  inside : (slot : ℕ) → slot < c .args .self .sizes .slots → positionOf (c .args .self) (c .args .thread) slot < 32
   inside slot h = position-fits _ ranged _ slot (c .pre .1) h
 
-  in-range : (phase : Phase) → phaseOf (c .args .t1) (c .args .thread) ≡ phase → phaseInRange (c .args .t1 .sizes) phase ≡ true
+  in-range : (phase : Phase) → phaseOf (c .args .self) (c .args .thread) ≡ phase → phaseInRange (c .args .self .sizes) phase ≡ true
   in-range phase e = rw e at (its-phase _ ranged _ (c .pre .1))
 
 publish-requires : tie.Need-publish-requires
 publish-requires c κs =
-    let start = c .before .before .before .before in
+    let start = c .before .before .before .before .before in
     (small start, inside start _ (loaded-facts _ _ _ _ (in-range start _ (c .before .phase .given .1)) .0))
 
 confirm-requires : tie.Need-confirm-requires
 confirm-requires c κs =
-    let start = c .before .before .before .before in
+    let start = c .before .before .before .before .before in
     let r = ranged start in
     let facts = published-facts _ _ _ (in-range start _ (c .before .phase2 .given .1)) in
     let b = limits _ r in
@@ -42,19 +42,19 @@ confirm-requires c κs =
 
 drain-requires : tie.Need-drain-requires
 drain-requires c κs =
-    let start = c .before .before .before .before in
+    let start = c .before .before .before .before .before in
     (small start, inside start _ (draining-facts _ _ (in-range start _ (c .before .phase3 .given .1))))
 
 look-requires : tie.Need-look-requires
 look-requires c κs =
-    let start = c .before .before .before .before in
+    let start = c .before .before .before .before .before in
     let b = limits _ (ranged start) in
     let scan = look-facts _ _ _ (in-range start _ (c .before .phase4 .given .1)) .0 in
     ((small start, b .positions), (scan .some, omega arith))
 
 hand-over-requires : tie.Need-hand-over-requires
 hand-over-requires c κs =
-    let start = c .before .before .before .before in
+    let start = c .before .before .before .before .before in
     (small start, position-32 _ (ranged start) _ (swap-facts _ _ _ (in-range start _ (c .before .phase5 .given .1)) .1))
 
 returns : tie.Need-returns
@@ -86,7 +86,7 @@ go-on-spec =
     tie.close
     (tie.spec
     (λ c. search needs)
-    small
+    (λ c. small (c .before))
     (λ c. search needs)
     (λ c. search needs)
     publish-requires

@@ -15,26 +15,26 @@ use Rattle.machine.proofs.State.refusal.Tie as tie
 
 -- What each group that was passed says.
 
-good : (c : tie.Else1) → sound (c .before .before .args .t1) ≡ true
+good : (c : tie.Else1) → sound (c .before .before .args .self) ≡ true
 good c = passed (c .before .is-sound .ensures) (c .if1 .left)
 
 abbrev from2 : tie.Else2 → tie.Start
 from2 c = c .before .before .before .before .before
 
-no-field : (c : tie.Else2) → NoneApplies (fieldRows (from2 c .args .t1 .sizes) (from2 c .args .call))
+no-field : (c : tie.Else2) → NoneApplies (fieldRows (from2 c .args .self .sizes) (from2 c .args .call))
 unfolding fieldRows allFrom
 no-field c = none-applies _ refl (sym (c .before .field-refusal .ensures) ∙ c .if2 .left)
 
-fields : (c : tie.Else2) → FieldsPass (from2 c .args .t1 .sizes) (from2 c .args .call)
+fields : (c : tie.Else2) → FieldsPass (from2 c .args .self .sizes) (from2 c .args .call)
 fields c = fields-pass _ _ (no-field c)
 
-ranged : (c : tie.Else2) → Ranged (from2 c .args .t1)
+ranged : (c : tie.Else2) → Ranged (from2 c .args .self)
 ranged c = to-sound _ (good (c .before .before .before)) .ranged
 
 abbrev from3 : tie.Else3 → tie.Start
-from3 c = from2 (c .before .before .before .before)
+from3 c = from2 (c .before .before .before .before .before)
 
-no-thread : (c : tie.Else3) → NoneApplies (threadRows (threadAt (from3 c .args .t1) (from3 c .args .call .thread)) (from3 c .args .call .operation))
+no-thread : (c : tie.Else3) → NoneApplies (threadRows (threadAt (from3 c .args .self) (from3 c .args .call .thread)) (from3 c .args .call .operation))
 unfolding threadRows allFrom
 no-thread c = none-applies _ refl (sym (c .before .thread-refusal .ensures) ∙ c .if3 .left)
 
@@ -47,31 +47,31 @@ returns-2 c =
     let field = c .before .field-refusal .ensures in
     rw (else-the-rest _ _ (good (c .before .before .before)), stops _ _ (λ none. c .if2 .taken (field ∙ none))) field
 
-element-copy-out-me : tie.Need-element-copy-out-me
-element-copy-out-me c = thread-eight _ (ranged (c .before)) _ (fields (c .before) .thread)
+array-copy-out-me : tie.Need-array-copy-out-me
+array-copy-out-me c = thread-eight _ (ranged (c .before .before)) _ (fields (c .before .before) .thread)
 
 returns-3 : tie.Need-returns-3
 unfolding callRows
 returns-3 c =
-    let e2 = c .before .before .before .before in
+    let e2 = c .before .before .before .before .before in
     let busy = c .before .thread-refusal .ensures in
     rw (else-the-rest _ _ (good (e2 .before .before .before)), goes-on _ (no-field e2), stops _ _ (λ none. c .if3 .taken (busy ∙ none))) busy
 
 unprotected-requires : tie.Need-unprotected-requires
 unprotected-requires c κs =
-    let e2 = c .before .before .before .before .before in
+    let e2 = c .before .before .before .before .before .before in
     λ reads.
     let names = names-slot _ reads in
     position-fits _ (ranged e2) _ _ (fields e2 .thread) (fields e2 .slot (names .0) (names .1))
 
 -- the last group decides
 rest : (c : tie.Else3)
-    → (let s = from3 c .args .t1 in
+    → (let s = from3 c .args .self in
     let call = from3 c .args .call in
     refusalOf s call ≡ firstOf (objectRows (slotAt s (positionOf s (call .thread) (call .slot))) (s .pool) call))
 unfolding callRows
 rest c =
-    let e2 = c .before .before .before .before in
+    let e2 = c .before .before .before .before .before in
     rw (else-the-rest _ _ (good (e2 .before .before .before)), goes-on _ (no-field e2), goes-on _ (no-thread c))
 
 returns-4 : tie.Need-returns-4
@@ -112,7 +112,7 @@ refusal-spec =
     returns-2
     (λ c. search needs)
     (λ c. search needs)
-    element-copy-out-me
+    array-copy-out-me
     (λ c κs. search needs)
     returns-3
     unprotected-requires
