@@ -1,13 +1,14 @@
 //! Times the proved machine, linked as a static library, beside the plain one, on the same schedules in this one process.
 //!
-//! With no argument it checks that both give the same, and prints the table. `count WHICH N TIMES` runs one of the two and nothing
-//! else, for a tool that counts instructions.
+//! With no argument it checks that all give the same, and prints the tables. `count WHICH N TIMES` runs one version and nothing else, for a
+//! tool that counts instructions. `stack` prints how much stack a whole run of each version takes.
 
+mod painted;
 mod plain;
 mod records;
 mod schedules;
 
-use plain::Sizes;
+use plain::{Sizes, COUNTS, FLAT, WALK, WHOLE};
 use schedules::{schedule, Schedule};
 use std::time::{Duration, Instant};
 
@@ -51,14 +52,43 @@ fn of(objects: u8) -> Schedule {
     schedule(Sizes { threads: 8, slots: 4, links: 16, objects }, STEPS, SEED)
 }
 
-/// What is timed: the proved version, the plain one, and the plain one that looks at every entry.
-type Versions<'a> = [Box<dyn FnMut(&[u8]) + 'a>; 3];
+/// The plain versions, by how their check finds that each object is in one place: see plain/refusing.rs.
+const WAYS: [&str; 4] = ["counts", "whole", "walk", "flat"];
+
+fn checksum(way: &str, input: &[u8]) -> u64 {
+    match way {
+        "counts" => records::checksum::<COUNTS>(input),
+        "whole" => records::checksum::<WHOLE>(input),
+        "walk" => records::checksum::<WALK>(input),
+        "flat" => records::checksum::<FLAT>(input),
+        _ => unknown(way),
+    }
+}
+
+fn text(way: &str, input: &[u8], out: &mut Vec<u8>) {
+    out.clear();
+    match way {
+        "counts" => records::text::<COUNTS>(input, out),
+        "whole" => records::text::<WHOLE>(input, out),
+        "walk" => records::text::<WALK>(input, out),
+        "flat" => records::text::<FLAT>(input, out),
+        _ => unknown(way),
+    }
+}
+
+fn unknown(which: &str) -> ! {
+    eprintln!("bench: no version is called {which}");
+    std::process::exit(2);
+}
+
+/// What is timed: the proved version, then the plain ones in the order of `WAYS`.
+type Versions<'a> = Vec<Box<dyn FnMut(&[u8]) + 'a>>;
 
 /// For each N the fastest round of each version, in nanoseconds a call. The versions take turns, and each round goes through every N,
 /// so that other work on the machine falls on all alike.
-fn fastest(mut versions: Versions) -> [[f64; 3]; OBJECTS.len()] {
+fn fastest(mut versions: Versions) -> Vec<Vec<f64>> {
     let inputs = OBJECTS.map(|objects| of(objects).input);
-    let mut best = [[Duration::MAX; 3]; OBJECTS.len()];
+    let mut best = vec![vec![Duration::MAX; versions.len()]; OBJECTS.len()];
     for _ in 0..ROUNDS {
         for (input, row) in inputs.iter().zip(&mut best) {
             for (version, time) in versions.iter_mut().zip(row) {
@@ -68,7 +98,8 @@ fn fastest(mut versions: Versions) -> [[f64; 3]; OBJECTS.len()] {
             }
         }
     }
-    best.map(|row| row.map(|time| time.as_nanos() as f64 / STEPS as f64))
+    let a_call = |time: Duration| time.as_nanos() as f64 / STEPS as f64;
+    best.into_iter().map(|row| row.into_iter().map(a_call).collect()).collect()
 }
 
 /// The slope of time over N by least squares: what one more object costs a call.
@@ -81,41 +112,54 @@ fn slope(times: impl Iterator<Item = f64>) -> f64 {
     above / below
 }
 
-/// Both versions on one schedule; a difference ends the program.
+/// All versions on one schedule; a difference ends the program.
 fn compare(objects: u8, made: &Schedule) {
-    let (a, b) = (proved(&made.input), records::checksum::<false>(&made.input));
-    if a != b {
-        eprintln!("bench: N {objects}: the proved machine's checksum is {a}, the plain one's {b}");
-        std::process::exit(1);
+    let sum = proved(&made.input);
+    for way in WAYS {
+        let other = checksum(way, &made.input);
+        if sum != other {
+            eprintln!("bench: N {objects}: the proved machine's checksum is {sum}, that of {way} {other}");
+            std::process::exit(1);
+        }
     }
     let [refused, taken, begun, working, protected, nothing, swapped, moved, tag, finished, left, freed] = made.answers;
-    println!("N {objects:3}  checksum {a} from both; answers: refused {refused}, taken {taken}, begun {begun}, working {working}, protected {protected}, nothing {nothing}, swapped {swapped}, moved {moved}, tag {tag}, finished {finished}, left {left}, freed {freed}");
+    println!("N {objects:3}  checksum {sum} from all; answers: refused {refused}, taken {taken}, begun {begun}, working {working}, protected {protected}, nothing {nothing}, swapped {swapped}, moved {moved}, tag {tag}, finished {finished}, left {left}, freed {freed}");
+}
+
+/// One line of numbers: the proved version's, and of each plain one its own and how often it goes into the proved one's.
+fn line(objects: u8, row: &[f64]) {
+    print!("{objects:4} {:9.1}", row[0]);
+    for plain in &row[1..] {
+        print!(" {plain:9.1} {:6.2}", row[0] / plain);
+    }
+    println!();
 }
 
 fn table(title: &str, versions: Versions) {
     println!("\n{title}, T 8, H 4, L 16, {STEPS} steps: ns a call, the fastest of {ROUNDS} rounds\n");
-    println!("   N    proved     plain    ratio     whole    ratio");
+    println!("   N    proved    counts  ratio     whole  ratio      walk  ratio      flat  ratio");
     let times = fastest(versions);
-    for (objects, [proved, plain, whole]) in OBJECTS.iter().zip(times) {
-        println!("{objects:4} {proved:9.1} {plain:9.1} {:8.2} {whole:9.1} {:8.2}", proved / plain, proved / whole);
+    for (objects, row) in OBJECTS.iter().zip(&times) {
+        line(*objects, row);
     }
-    let [proved, plain, whole] = [0, 1, 2].map(|version| slope(times.iter().map(|row| row[version])));
-    println!("growth, ns for one more object: proved {proved:.2}, plain {plain:.2}, whole {whole:.2}");
+    print!("growth, ns for one more object: proved {:.2}", slope(times.iter().map(|row| row[0])));
+    for (version, way) in WAYS.iter().enumerate() {
+        print!(", {way} {:.2}", slope(times.iter().map(|row| row[version + 1])));
+    }
+    println!();
 }
 
 fn all() {
     for objects in OBJECTS {
         compare(objects, &of(objects));
     }
-    println!("\nplain: the check leaves at the first entry that is wrong. whole: it looks at every entry, so that many are taken at once.");
-    table(
-        "The machine: every call, with its soundness check",
-        [
-            Box::new(|input| _ = black_box(proved(input))),
-            Box::new(|input| _ = black_box(records::checksum::<false>(input))),
-            Box::new(|input| _ = black_box(records::checksum::<true>(input))),
-        ],
-    );
+    println!("\nThe plain versions differ in their soundness check. counts: a count per object, left at the first entry that is wrong.");
+    println!("whole: a count per object, every entry looked at. walk: the places walked for each object. flat: the same, laid in a row first.");
+    let mut versions: Versions = vec![Box::new(|input| _ = black_box(proved(input)))];
+    for way in WAYS {
+        versions.push(Box::new(move |input| _ = black_box(checksum(way, input))));
+    }
+    table("The machine: every call, with its soundness check", versions);
     whole_text();
 }
 
@@ -127,62 +171,62 @@ fn whole_text() {
 #[cfg(text)]
 fn whole_text() {
     let mut ours = vec![0; ROOM];
-    let mut plains = Vec::with_capacity(ROOM);
     for objects in OBJECTS {
         let made = of(objects);
         let written = proved_text(&made.input, &mut ours);
-        plains.clear();
-        records::text::<false>(&made.input, &mut plains);
-        if ours[..written] != plains[..] {
-            eprintln!("bench: N {objects}: the two texts differ");
-            std::process::exit(1);
+        for way in WAYS {
+            let mut plain = Vec::with_capacity(ROOM);
+            text(way, &made.input, &mut plain);
+            if ours[..written] != plain[..] {
+                eprintln!("bench: N {objects}: the proved program's text is not that of {way}");
+                std::process::exit(1);
+            }
         }
     }
-    let (mut plains, mut wholes) = (plains, Vec::with_capacity(ROOM));
-    table(
-        "The whole program, input bytes to text (the same bytes from both)",
-        [
-            Box::new(|input| _ = black_box(proved_text(input, &mut ours))),
-            Box::new(|input| {
-                plains.clear();
-                records::text::<false>(input, &mut plains);
-                black_box(plains.len());
-            }),
-            Box::new(|input| {
-                wholes.clear();
-                records::text::<true>(input, &mut wholes);
-                black_box(wholes.len());
-            }),
-        ],
-    );
+    let mut versions: Versions = vec![Box::new(move |input| _ = black_box(proved_text(input, &mut ours)))];
+    for way in WAYS {
+        let mut plain = Vec::with_capacity(ROOM);
+        versions.push(Box::new(move |input| {
+            text(way, input, &mut plain);
+            black_box(plain.len());
+        }));
+    }
+    table("The whole program, input bytes to text (the same bytes from all)", versions);
 }
 
 fn count(which: &str, objects: u8, times: usize) {
     let made = of(objects);
-    let mut text = vec![0; ROOM];
+    let mut room = vec![0; ROOM];
     for _ in 0..times {
+        let input = black_box(&made.input);
         let result = match which {
-            "proved" => proved(black_box(&made.input)),
-            "plain" => records::checksum::<false>(black_box(&made.input)),
-            "whole" => records::checksum::<true>(black_box(&made.input)),
+            "proved" => proved(input),
             #[cfg(text)]
-            "proved-text" => proved_text(black_box(&made.input), &mut text) as u64,
-            "plain-text" => {
-                text.clear();
-                records::text::<false>(black_box(&made.input), &mut text);
-                text.len() as u64
-            }
-            "whole-text" => {
-                text.clear();
-                records::text::<true>(black_box(&made.input), &mut text);
-                text.len() as u64
-            }
-            _ => {
-                eprintln!("bench: no version is called {which}");
-                std::process::exit(2);
-            }
+            "proved-text" => proved_text(input, &mut room) as u64,
+            _ => match which.strip_suffix("-text") {
+                Some(way) => {
+                    text(way, input, &mut room);
+                    room.len() as u64
+                }
+                None => checksum(which, input),
+            },
         };
         black_box(result);
+    }
+}
+
+/// Bytes of stack that a run takes, at N 240.
+fn stack() {
+    let made = of(240);
+    let runs: [(&str, fn(&[u8]) -> u64); 5] = [
+        ("proved", proved),
+        ("counts", records::checksum::<COUNTS>),
+        ("whole", records::checksum::<WHOLE>),
+        ("walk", records::checksum::<WALK>),
+        ("flat", records::checksum::<FLAT>),
+    ];
+    for (name, run) in runs {
+        println!("{:6} {name}", painted::taken(run, &made.input));
     }
 }
 
@@ -191,8 +235,9 @@ fn main() {
     match words.iter().map(String::as_str).collect::<Vec<_>>()[..] {
         [] => all(),
         ["count", which, objects, times] => count(which, objects.parse().unwrap(), times.parse().unwrap()),
+        ["stack"] => stack(),
         _ => {
-            eprintln!("bench: no argument, or: count WHICH N TIMES");
+            eprintln!("bench: no argument, or: count WHICH N TIMES, or: stack");
             std::process::exit(2);
         }
     }

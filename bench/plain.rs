@@ -1,9 +1,11 @@
 //! The record machine in plain Rust, written from the scope page alone: the state is changed where it stands, and its soundness is
-//! checked before every call, as the rules say, with one count per object.
+//! checked before every call, as the rules say.
 //!
-//! Here are the state and what each call does; the check and the refusals are in plain/refusing.rs, which says what `WHOLE` is.
+//! Here are the state and what each call does; the check, in the ways that are compared, and the refusals are in plain/refusing.rs.
 
 mod refusing;
+
+pub use refusing::{COUNTS, FLAT, WALK, WHOLE};
 
 const THREADS: usize = 8;
 const SLOTS: usize = 4;
@@ -159,8 +161,8 @@ impl State {
         (thread * self.sizes.slots + slot) as usize
     }
 
-    pub fn step<const WHOLE: bool>(&mut self, call: &Call) -> Answer {
-        match self.refusal::<WHOLE>(call) {
+    pub fn step<const WAY: u8>(&mut self, call: &Call) -> Answer {
+        match self.refusal::<WAY>(call) {
             0 => self.accepted(call),
             number => Answer::Refused(number),
         }
@@ -270,8 +272,8 @@ impl State {
     }
 
     /// Objects free, in links, in hands, in handovers, carried; five zeros where the state is not sound.
-    pub fn count<const WHOLE: bool>(&self) -> [u8; 5] {
-        if !self.sound::<WHOLE>() {
+    pub fn count<const WAY: u8>(&self) -> [u8; 5] {
+        if !self.sound::<WAY>() {
             return [0; 5];
         }
         let some = |object: u8| (object != 0) as u8;

@@ -38,7 +38,7 @@ fn mixed(sum: u64, number: u32) -> u64 {
 }
 
 /// The checksum of all answers, each as its number and two values, and of the five places at the end.
-pub fn checksum<const WHOLE: bool>(input: &[u8]) -> u64 {
+pub fn checksum<const WAY: u8>(input: &[u8]) -> u64 {
     let mut state = match read(input) {
         Read::Sizes(sizes) => State::start(sizes).expect("sizes in range"),
         _ => return 0,
@@ -49,10 +49,10 @@ pub fn checksum<const WHOLE: bool>(input: &[u8]) -> u64 {
             Read::Step(call) => call,
             _ => return sum,
         };
-        let (number, a, b) = state.step::<WHOLE>(&call).numbers();
+        let (number, a, b) = state.step::<WAY>(&call).numbers();
         sum = mixed(mixed(mixed(sum, number.into()), a), b);
     }
-    state.count::<WHOLE>().iter().fold(sum, |sum, &place| mixed(sum, place.into()))
+    state.count::<WAY>().iter().fold(sum, |sum, &place| mixed(sum, place.into()))
 }
 
 /// A number's digits, and the byte after them.
@@ -85,7 +85,7 @@ fn stop(out: &mut Vec<u8>, records: u32, number: u8) {
 }
 
 /// The text that the program prints for this input.
-pub fn text<const WHOLE: bool>(input: &[u8], out: &mut Vec<u8>) {
+pub fn text<const WAY: u8>(input: &[u8], out: &mut Vec<u8>) {
     let sizes = match read(input) {
         Read::Sizes(sizes) => sizes,
         Read::Step(_) | Read::End => return stop(out, 0, 42),
@@ -106,12 +106,12 @@ pub fn text<const WHOLE: bool>(input: &[u8], out: &mut Vec<u8>) {
             Read::Refused(number) => return stop(out, steps + 1, number),
             Read::End => break,
         };
-        let (number, a, b) = state.step::<WHOLE>(&call).numbers();
+        let (number, a, b) = state.step::<WAY>(&call).numbers();
         steps += 1;
         line(out, &[steps, call.thread.into(), call.operation.into(), number.into(), a, b]);
         left = &left[10..];
     }
-    let [free, links, hands, handovers, carried] = state.count::<WHOLE>().map(u32::from);
+    let [free, links, hands, handovers, carried] = state.count::<WAY>().map(u32::from);
     out.extend_from_slice(b"end ");
     line(out, &[steps, free, links, hands, handovers, carried]);
 }

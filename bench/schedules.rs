@@ -1,7 +1,7 @@
 //! Schedules made from a fixed seed: sensible calls of threads that take turns at random, so that protects, scans and handovers of
 //! several threads are under way at once, and now and then a call that is refused.
 
-use crate::plain::{Answer, Call, Sizes, State};
+use crate::plain::{Answer, Call, Sizes, State, COUNTS};
 use crate::records::{write_sizes, write_step};
 
 struct Random(u64);
@@ -34,7 +34,7 @@ pub fn schedule(sizes: Sizes, steps: usize, seed: u64) -> Schedule {
     for _ in 0..steps {
         let call = if random.percent(3) { any_call(&mut random, &sizes) } else { sensible(&mut random, &state) };
         write_step(&mut made.input, &call);
-        let answer = match state.step::<false>(&call) {
+        let answer = match state.step::<COUNTS>(&call) {
             Answer::Refused(_) => 0,
             answer => answer.numbers().0,
         };
