@@ -118,15 +118,6 @@ module _ {A : Type 0} (test : A → Bool) where
     count-all h = so-far ∙ ap (howMany test) (take-all i xs h)
 
 module _ {A : Type 0} (f : A → ℕ) (o : ℕ) where
-  -- how often a number is read is how many elements are read as it
-  occurrences-as : (xs : List A) → occurrences f o xs ≡ howMany (λ x. eqb (f x) o) xs
-  unfolding occurrences howMany
-  occurrences-as [] = refl
-  occurrences-as (x ∷ xs) = ap (λ (n : ℕ). bit (eqb (f x) o) + n) (occurrences-as xs)
-
-  pub occurrences-most : (xs : List A) → occurrences f o xs ≤ length xs
-  occurrences-most xs = rw occurrences-as (how-many-most (λ x. eqb (f x) o) xs)
-
   -- The law that carries all counting of places.
   pub occurrences-set : (xs : List A) (i : ℕ) (v d : A) → i < length xs
       → occurrences f o (set xs i v) + bit (eqb (f (getD xs i d)) o) ≡ occurrences f o xs + bit (eqb (f v) o)

@@ -1,4 +1,4 @@
--- To believe: Row. To read: Promise. Nobody needs to read Laying.
+-- To believe: Row. To read: Promise.
 pub mod Row
-pub mod Laying
 pub mod Promise
+pub mod Lemmas

@@ -1,8 +1,7 @@
 -- Of a state whose entries are good, an object stands in the row as often as in its links, hands, handovers and carried objects together.
-use Prim.Native.Nat.{ℕ, suc, _+_, _≤_, _<_, min}
-use native.Mathlib.Omega.{arith}
+use Prim.Native.Nat.{ℕ, suc, _+_}
 use mathlib.Core.Path.{_≡_}
-use mathlib.Core.List.{List, map, _++_}
+use mathlib.Core.List.{List}
 use lib.ListN.{length, getD}
 use lib.Dec.{eqb}
 use Rattle.basics.specs.Counts.{countUnder, occurrences}
@@ -13,7 +12,7 @@ use Rattle.entries.specs.declared.Slot.{Slot}
 use Rattle.entries.specs.Phases.{carriedBy}
 use Rattle.entries.specs.Entries.{idleThread, emptySlot, linkGood, threadGood, slotGood}
 use Rattle.places.specs.Row.{rowOf}
-use Rattle.places.specs.Laying as laying
+use Rattle.places.specs.Lemmas.Laying as laying
 
 pub row-holds : (z : Sizes) (links : List ℕ) (threads : List Thread) (slots : List Slot)
     → length links ≡ 16 → length threads ≡ 8 → length slots ≡ 32

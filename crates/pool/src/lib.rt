@@ -1,4 +1,5 @@
-// The pool: which objects are free, and which is handed out next. Nothing above it sees how that is kept.
+// The pool: which objects are free, and which is handed out next. Nothing above it sees how that is kept, but that the soundness check lends
+// its marks.
 mod marks;
 
 use marks::are_on;

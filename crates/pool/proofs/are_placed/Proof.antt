@@ -1,6 +1,5 @@
 -- `are_placed` meets its contract: there is room for 240 objects, and of those each is looked at.
-use mathlib.Core.Path.{_≡_, sym}
-use mathlib.Core.Bool.{true, and-false}
+use mathlib.Core.Bool.{and-false}
 use borrow.Author.Tests.{le-leb, lt-leb}
 use borrow.Author.Needs.{needs}
 use Rattle.basics.specs.Tests.{refused, passed}

@@ -1,6 +1,4 @@
 -- `is_sound` meets its contract: a state is its parts.
-use mathlib.Core.Path.{_≡_, sym, _∙_}
-use lib.ListN.{length}
 use borrow.Author.Needs.{needs}
 use Rattle.machine.proofs.State.is_sound.Statement.{statement}
 use Rattle.machine.proofs.State.is_sound.Tie as tie

@@ -8,7 +8,7 @@ use lib.Seq.{paste, paste-zero}
 use Rattle.entries.specs.declared.Thread.{Thread}
 use Rattle.entries.specs.Entries.{idleThread}
 use Rattle.entries.specs.Phases.{carriedBy}
-use Rattle.places.specs.Laying.{laid-more}
+use Rattle.places.specs.Lemmas.Laying.{laid-more}
 use borrow.Author.Needs.{needs}
 use Rattle.places.proofs.row.lay_carried.Statement.{statement}
 use Rattle.places.proofs.row.lay_carried.Tie as tie

@@ -7,7 +7,7 @@ use lib.ListN.{length, length-map, List·getD-map}
 use lib.Seq.{paste, paste-zero}
 use Rattle.entries.specs.declared.Thread.{Thread}
 use Rattle.entries.specs.Entries.{idleThread}
-use Rattle.places.specs.Laying.{laid-more}
+use Rattle.places.specs.Lemmas.Laying.{laid-more}
 use borrow.Author.Needs.{needs}
 use Rattle.places.proofs.row.lay_hands.Statement.{statement}
 use Rattle.places.proofs.row.lay_hands.Tie as tie

@@ -5,7 +5,7 @@ use native.Mathlib.Omega.{arith}
 use native.Mathlib.Nat.{zero-add}
 use lib.ListN.{length, getD, set}
 use lib.Seq.{paste, paste-zero}
-use Rattle.places.specs.Laying.{laid-more}
+use Rattle.places.specs.Lemmas.Laying.{laid-more}
 use borrow.Author.Needs.{needs}
 use Rattle.places.proofs.row.lay_links.Statement.{statement}
 use Rattle.places.proofs.row.lay_links.Tie as tie

@@ -6,8 +6,7 @@ use lib.ListN.{length, replicate, length-map}
 use borrow.Author.Needs.{needs}
 use Rattle.entries.specs.declared.Thread.{Thread}
 use Rattle.entries.specs.declared.Slot.{Slot}
-use Rattle.entries.specs.Phases.{carriedBy}
-use Rattle.places.specs.Laying.{still-long, laid-up-to}
+use Rattle.places.specs.Lemmas.Laying.{still-long, laid-up-to}
 use Rattle.places.proofs.row.row_of.Statement.{statement}
 use Rattle.places.proofs.row.row_of.Tie as tie
 

@@ -1,6 +1,6 @@
 -- `each_once` meets its contract. The loop's invariant: the objects passed are in one place each.
 use Prim.Native.Nat.{suc, _+_, _≤_, _-_}
-use mathlib.Core.Path.{_≡_, refl, sym, _∙_}
+use mathlib.Core.Path.{_≡_, refl, sym}
 use mathlib.Core.Bool.{true, false}
 use native.Mathlib.Omega.{arith}
 use native.Mathlib.Numerals.{add-one}

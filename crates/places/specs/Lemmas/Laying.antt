@@ -3,7 +3,7 @@ use Prim.Native.Nat.{ℕ, zero, suc, _+_, _-_, _<_, _≤_, min}
 use native.Mathlib.Omega.{arith}
 use native.Mathlib.Numerals.{add-one}
 use mathlib.Core.Path.{_≡_, refl, sym, ap, ap₂, _∙_}
-use mathlib.Core.List.{List, [], _∷_, map, _++_, append-nil, append-assoc}
+use mathlib.Core.List.{List, [], map, _++_, append-nil, append-assoc}
 use lib.ListN.{length, getD, set, take, drop, replicate, length-map, length-append, length-replicate, length-take, List·getD-map}
 use lib.Dec.{eqb}
 use lib.Seq.{paste, paste-suc, length-paste, take-at, drop-append-add}
