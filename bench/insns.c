@@ -1,8 +1,10 @@
-// A plugin for QEMU's user emulation: how many instructions the emulated program executed, on standard error at its end. The part of
-// the plugin interface that it uses is declared here, since Debian's packages have no header for it.
+// A plugin for QEMU's user emulation: how many instructions the emulated program executed, on standard error at its end, and how many of
+// them in functions whose name has one of the words that are given as in=WORD. The part of the plugin interface that it uses is declared
+// here, since Debian's packages have no header for it.
 #include <inttypes.h>
 #include <stdint.h>
 #include <stdio.h>
+#include <string.h>
 
 #ifndef INTERFACE
 #define INTERFACE 1
@@ -10,15 +12,21 @@
 
 typedef uint64_t qemu_plugin_id_t;
 struct qemu_plugin_tb;
+struct qemu_plugin_insn;
 
 void qemu_plugin_register_vcpu_tb_trans_cb(qemu_plugin_id_t id, void (*cb)(qemu_plugin_id_t, struct qemu_plugin_tb *));
 void qemu_plugin_register_vcpu_tb_exec_cb(struct qemu_plugin_tb *tb, void (*cb)(unsigned, void *), int flags, void *data);
 void qemu_plugin_register_atexit_cb(qemu_plugin_id_t id, void (*cb)(qemu_plugin_id_t, void *), void *data);
 size_t qemu_plugin_tb_n_insns(const struct qemu_plugin_tb *tb);
+struct qemu_plugin_insn *qemu_plugin_tb_get_insn(const struct qemu_plugin_tb *tb, size_t index);
+const char *qemu_plugin_insn_symbol(const struct qemu_plugin_insn *insn);
 
 __attribute__((visibility("default"))) int qemu_plugin_version = INTERFACE;
 
 static uint64_t executed;
+static uint64_t inside;
+static const char *words[8];
+static int word_count;
 
 static void on_run(unsigned cpu, void *instructions)
 {
@@ -26,10 +34,25 @@ static void on_run(unsigned cpu, void *instructions)
     executed += (uintptr_t)instructions;
 }
 
+static void on_run_inside(unsigned cpu, void *instructions)
+{
+    on_run(cpu, instructions);
+    inside += (uintptr_t)instructions;
+}
+
+// Whether these instructions are of a function that was asked for. They are of one function, that of the first.
+static int asked_for(const struct qemu_plugin_tb *tb)
+{
+    const char *name = qemu_plugin_insn_symbol(qemu_plugin_tb_get_insn(tb, 0));
+    for (int i = 0; name && i < word_count; i++)
+        if (strstr(name, words[i])) return 1;
+    return 0;
+}
+
 static void on_translate(qemu_plugin_id_t id, struct qemu_plugin_tb *tb)
 {
     (void)id;
-    qemu_plugin_register_vcpu_tb_exec_cb(tb, on_run, 0, (void *)(uintptr_t)qemu_plugin_tb_n_insns(tb));
+    qemu_plugin_register_vcpu_tb_exec_cb(tb, asked_for(tb) ? on_run_inside : on_run, 0, (void *)(uintptr_t)qemu_plugin_tb_n_insns(tb));
 }
 
 static void on_end(qemu_plugin_id_t id, void *data)
@@ -37,13 +60,14 @@ static void on_end(qemu_plugin_id_t id, void *data)
     (void)id;
     (void)data;
     fprintf(stderr, "instructions %" PRIu64 "\n", executed);
+    fprintf(stderr, "inside %" PRIu64 "\n", inside);
 }
 
 __attribute__((visibility("default"))) int qemu_plugin_install(qemu_plugin_id_t id, const void *info, int argc, char **argv)
 {
     (void)info;
-    (void)argc;
-    (void)argv;
+    for (int i = 0; i < argc && word_count < 8; i++)
+        if (strncmp(argv[i], "in=", 3) == 0) words[word_count++] = strdup(argv[i] + 3);
     qemu_plugin_register_vcpu_tb_trans_cb(id, on_translate);
     qemu_plugin_register_atexit_cb(id, on_end, NULL);
     return 0;
