@@ -16,6 +16,7 @@ impl State {
     pub fn count(self) -> Counted
         ensures { λ r. ⌜ r ≡ countOf self ⌝ }
     {
+        // The check by its parts, and not `is_sound`: a function with one caller is compiled into it, and would copy what it is lent.
         if !parts_sound(
             self.sizes,
             &self.links,

@@ -231,6 +231,7 @@ impl State {
         ensures { λ r. ⌜ r ≡ goOnOf self thread ⌝ }
     {
         let t = thread as usize;
+        // out of a copy of the threads, as in the refusals
         let threads = self.threads;
         let me = threads[t];
         let phase = me.phase;

@@ -126,6 +126,7 @@ impl State {
             return field;
         }
         let t = call.thread as usize;
+        // out of a copy of the threads: the compiler copies whatever is read by a number that is worked out, and else that is the state
         let threads = self.threads;
         let me = threads[t];
         let busy = thread_refusal(me, call.operation);
