@@ -4,22 +4,54 @@ use crate::draw;
 use crate::draw::Plan;
 use crate::totals::Totals;
 use entries::Phase;
+use entries::Sizes;
 use entries::Slot;
 use entries::Thread;
 use machine::State;
 
-fn phase(seed: usize, h: usize, l: usize, n: usize) -> Phase {
-    let slot = plain::byte(dice::pick(seed, 11, h));
-    let link = plain::byte(dice::pick(seed, 12, l));
-    let object = plain::byte(dice::pick(seed, 13, n));
-    let position = plain::byte(dice::pick(seed, 14, 34));
-    match dice::pick(seed, 15, 8) {
+// In range, and one in eight times one past it.
+fn near(seed: usize, k: usize, size: u8) -> u8 {
+    if dice::pick(seed, k ^ 64, 8) == 0 {
+        return size;
+    }
+    plain::byte(dice::pick(seed, k, plain::wide(size)))
+}
+
+// What carries an object: of the positions, T × H and one past it too.
+fn carrying(seed: usize, z: Sizes, object: u8) -> Phase {
+    let slot = near(seed, 11, z.slots);
+    let link = near(seed, 12, z.links);
+    let ends = plain::up(plain::up(positions(z.threads, z.slots)));
+    let position = plain::byte(dice::pick(seed, 14, ends));
+    match dice::pick(seed, 16, 4) {
+        0 => Phase::Look { object, position },
+        1 => Phase::Swap { object, position },
+        2 => Phase::SweepLook {
+            object,
+            position,
+            slot,
+            link,
+        },
+        _ => Phase::SweepSwap {
+            object,
+            position,
+            slot,
+            link,
+        },
+    }
+}
+
+fn phase(seed: usize, z: Sizes) -> Phase {
+    let slot = near(seed, 11, z.slots);
+    let link = near(seed, 12, z.links);
+    let object = near(seed, 13, z.objects);
+    match dice::pick(seed, 15, 9) {
         0 => Phase::Idle,
         1 | 2 => Phase::Loaded { slot, link, object },
         3 | 4 => Phase::Published { slot, link },
         5 => Phase::Draining { slot },
-        6 => Phase::Look { object, position },
-        _ => Phase::Swap { object, position },
+        6 => Phase::Sweeping { slot, link },
+        _ => carrying(seed, z, object),
     }
 }
 
@@ -65,7 +97,7 @@ fn change_thread(seed: usize, mut s: State) -> State {
     if t < 8 {
         let old = s.threads[t];
         let was = old.phase;
-        let next = phase(seed, plain::wide(z.slots), plain::wide(z.links), n);
+        let next = phase(seed, z);
         let only_hand = dice::pick(seed, 5, 4) == 0;
         let hand = if only_hand {
             plain::byte(dice::pick(seed, 6, n))
@@ -146,6 +178,31 @@ fn move_free(seed: usize, mut s: State) -> State {
     s
 }
 
+// One free object goes to an idle thread that then carries it: a sound state gives a sound one, unless a number of the phase is
+// out of range.
+fn carry_free(seed: usize, mut s: State) -> State {
+    let z = s.sizes;
+    let i = dice::pick(seed, 1, plain::wide(z.objects));
+    let t = dice::pick(seed, 2, plain::wide(z.threads));
+    if i < 240 {
+        if t < 8 {
+            let object = plain::byte(i + 1);
+            let pool = s.pool;
+            let old = s.threads[t];
+            let was = old.phase;
+            if pool.is_free(object) && entries::is_idle(was) {
+                let taken = pool.take_out(object);
+                s.pool = taken;
+                s.threads[t] = Thread {
+                    hand: old.hand,
+                    phase: carrying(seed, z, object),
+                };
+            }
+        }
+    }
+    s
+}
+
 // What a link holds goes to a handover that is empty: a sound state gives a sound one.
 fn move_link(seed: usize, mut s: State) -> State {
     let z = s.sizes;
@@ -201,7 +258,8 @@ fn change(seed: usize, s: State) -> State {
         3 | 4 | 5 => change_slot(seed, s),
         6 | 7 => change_object(seed, s),
         8 => change_size(seed, s),
-        9 | 10 | 11 | 12 => move_free(seed, s),
+        9 | 10 | 11 => move_free(seed, s),
+        12 | 13 => carry_free(seed, s),
         _ => move_link(seed, s),
     }
 }

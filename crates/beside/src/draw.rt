@@ -3,7 +3,7 @@ use crate::dice;
 use plain::Order;
 use twin::Twin;
 
-pub const SCHEDULES: usize = 20480;
+pub const SCHEDULES: usize = 6144;
 
 // Sensible calls with a few rough ones, half rough ones, or wild bytes.
 pub const SENSIBLE: usize = 0;
@@ -57,7 +57,28 @@ fn sized(seed: usize, style: usize, t: usize, h: usize, l: usize, n: usize, leng
     }
 }
 
-// The smallest sizes, where calls meet often; small ones; any; the largest; and, of wild schedules, one half with any bytes.
+// Sizes up to these.
+fn drawn(seed: usize, style: usize, t: usize, h: usize, l: usize, n: usize, length: usize) -> Plan {
+    sized(
+        seed,
+        style,
+        some(seed, 1, t),
+        some(seed, 2, h),
+        some(seed, 3, l),
+        some(seed, 4, n),
+        length,
+    )
+}
+
+// Two or three threads with a slot or two each that meet on a link or two, for so long that slots are used again and again.
+fn meets(seed: usize, style: usize) -> Plan {
+    let t = plain::up(some(seed, 1, 2));
+    let n = plain::up(plain::up(some(seed, 4, 3)));
+    sized(seed, style, t, some(seed, 2, 2), some(seed, 3, 2), n, 192)
+}
+
+// The smallest sizes, where calls meet often; small ones; any; the largest; in one half of the schedules threads that meet, of
+// which one stands still while another does much; and, of wild schedules, one half with any bytes.
 pub fn planned(number: usize) -> Plan {
     let seed = dice::mix(20250, number);
     let style = style_of(number);
@@ -68,50 +89,20 @@ pub fn planned(number: usize) -> Plan {
         let n = dice::pick(seed, 4, 256);
         return sized(seed, style, t, h, l, n, 16);
     }
-    let k = number / 16 % 8;
-    if k < 3 {
-        let n = some(seed, 4, 4);
-        return sized(
-            seed,
-            style,
-            some(seed, 1, 3),
-            some(seed, 2, 2),
-            some(seed, 3, 2),
-            n,
-            32,
-        );
+    let loyal = if style == SENSIBLE { LOYAL } else { style };
+    match number / 16 % 8 {
+        0 => drawn(seed, style, 3, 2, 2, 4, 64),
+        1 => drawn(seed, style, 4, 4, 3, 10, 80),
+        2 => drawn(seed, style, 8, 4, 16, 240, 96),
+        3 => sized(seed, style, 8, 4, 16, 240, 160),
+        _ => meets(seed, loyal),
     }
-    if k < 6 {
-        let n = some(seed, 4, 10);
-        return sized(
-            seed,
-            style,
-            some(seed, 1, 4),
-            some(seed, 2, 4),
-            some(seed, 3, 3),
-            n,
-            40,
-        );
-    }
-    if k < 7 {
-        let n = some(seed, 4, 240);
-        return sized(
-            seed,
-            style,
-            some(seed, 1, 8),
-            some(seed, 2, 4),
-            some(seed, 3, 16),
-            n,
-            56,
-        );
-    }
-    sized(seed, style, 8, 4, 16, 240, 96)
 }
 
-// Two threads with a slot each that meet on two links, where one stands still while the other does much.
+// Two threads with a slot each that meet on one link, where one stands still while the other does much.
 pub fn meeting(number: usize) -> Plan {
     let seed = dice::mix(20251, number);
-    sized(seed, LOYAL, 2, 1, 2, 3, 64)
+    sized(seed, LOYAL, 2, 1, 1, 3, 128)
 }
 
 fn go_on(thread: usize) -> Order {
@@ -133,7 +124,7 @@ fn some_tag(seed: usize) -> usize {
 }
 
 // How often each operation is drawn for an idle thread: with an object in hand it is put in a link or retired, with none one
-// is sought. Clear is rare, so that handovers stay full while their slots protect other objects.
+// is sought. Clear is rare, so that it is mostly a sweep that finds a handover full.
 fn operation(seed: usize, full: bool) -> usize {
     let k = dice::pick(seed, 2, 16);
     if full {
@@ -199,17 +190,24 @@ fn sensible(seed: usize, s: Seen) -> Order {
     }
 }
 
-// A call that would do little: to protect an empty link, a swap that finds something else or moves nothing, to clear an
-// empty slot.
+// A call that would do little: to protect an empty link, or what the slot has already; a swap that finds something else or moves
+// nothing, or keeps from being retired what a slot has as its hazard; to retire anything else; to clear an empty slot.
 fn dull(o: Order, full: bool, w: Twin) -> bool {
     let op = o.operation;
     if op == 2 {
-        return w.in_link(o.link) == 0;
+        let there = w.in_link(o.link);
+        return there == 0 || there == w.hazard_of(o.thread, o.slot);
+    }
+    if op == 5 {
+        return !w.hand_in_hazard(o.thread);
     }
     if op == 6 {
         return w.hazard_of(o.thread, o.slot) == 0;
     }
     if op == 3 {
+        if w.hand_in_hazard(o.thread) {
+            return true;
+        }
         if o.slot == 255 {
             return !full || w.in_link(o.link) != 0;
         }

@@ -2,6 +2,7 @@
 mod change;
 mod dice;
 mod draw;
+mod kinds;
 mod run;
 mod show;
 mod totals;

@@ -6,7 +6,9 @@ use crate::totals::Totals;
 use compare::Five;
 use machine::Started;
 use machine::State;
+use plain::Order;
 use plain::Said;
+use plain::Task;
 use store::Store;
 use twin::Stepped;
 use twin::Twin;
@@ -45,19 +47,31 @@ fn counted(totals: Totals, s: State, w: Twin, waiting: usize) -> Totals {
     totals.count(theirs.same(ours) && sums(theirs, w, waiting))
 }
 
-// The answers to a call, and whether the store was told of it and gave the same.
+// A call and what its thread was in the middle of, the answers to it, and whether the store was told of it and gave the same.
 struct Heard {
+    order: Order,
+    before: Task,
     theirs: Said,
     ours: Said,
     listed: bool,
     agrees: bool,
 }
 
+fn counted_step(totals: Totals, heard: Heard, w: Twin) -> Totals {
+    let o = heard.order;
+    let ours = heard.ours;
+    if o.operation == 7 && ours.number < 19 {
+        return totals.go_on(heard.before, w.task_of(o.thread), ours.number);
+    }
+    totals
+}
+
 // Every comparison after a call.
 fn compared(before: Totals, heard: Heard, s: State, w: Twin, store: Store) -> Totals {
     let theirs = heard.theirs;
     let ours = heard.ours;
-    let seen = before.see(theirs.number).call(theirs.same(ours));
+    let steps = counted_step(before, heard, w);
+    let seen = steps.see(theirs.number).call(theirs.same(ours));
     let raw = compare::raw(s);
     let states = seen.state(raw.same(w.raw()));
     let listed = states.listing(heard.listed, heard.agrees);
@@ -100,6 +114,7 @@ pub fn schedule(number: usize, totals: Totals) -> Totals {
     for i in 0..256 {
         if i < plan.length {
             let order = draw::order(plan, i, w);
+            let before = w.task_of(order.thread);
             let out = state.step(compare::call(order));
             let answer = out.answer;
             let theirs = compare::said(answer);
@@ -107,6 +122,8 @@ pub fn schedule(number: usize, totals: Totals) -> Totals {
             let ours = mine.said;
             let told = store.hear(order, theirs);
             let heard = Heard {
+                order,
+                before,
                 theirs,
                 ours,
                 listed: told.listed,

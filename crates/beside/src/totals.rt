@@ -1,7 +1,12 @@
 // What was compared, and what was seen.
+use crate::kinds;
+use crate::kinds::Kinds;
+use plain::Task;
+
 pub struct Totals {
     // How often each answer and refusal was given, by its number.
     pub seen: [u32; 64],
+    pub kinds: Kinds,
     pub started: usize,
     pub calls: usize,
     pub counts: usize,
@@ -17,6 +22,7 @@ pub struct Totals {
 pub fn none() -> Totals {
     Totals {
         seen: [0; 64],
+        kinds: kinds::none(),
         started: 0,
         calls: 0,
         counts: 0,
@@ -38,6 +44,12 @@ impl Totals {
                 self.seen[number] = n + 1;
             }
         }
+        self
+    }
+
+    pub fn go_on(mut self, before: Task, after: Task, number: usize) -> Totals {
+        let kinds = self.kinds;
+        self.kinds = kinds.see(before, after, number);
         self
     }
 

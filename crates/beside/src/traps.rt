@@ -1,4 +1,4 @@
-// 01's traps, one at a time in the twin: the first schedule that it then answers differently from the first machine, and the
+// The traps, one at a time in the twin: the first schedule that it then answers differently from the first machine, and the
 // first, of two threads that meet, in which it no longer holds or answers what the plain store does.
 use crate::draw;
 use crate::draw::Plan;
@@ -176,7 +176,8 @@ fn lose(trap: usize) {
     found(draw::meeting(s.schedule), s, trap);
 }
 
-// Nothing is lost by an early drain, which only leaves an object behind, so that trap is not held to the store.
+// Nothing is lost by an early drain or sweep, which only leaves an object behind, nor by a protect that is not ended. So those
+// three traps are not held to the store.
 pub fn all() {
     compare::text(b"trap: moving on after a swap\n");
     differ(1);
@@ -192,4 +193,8 @@ pub fn all() {
     compare::text(b"trap: scanning only other threads' slots\n");
     differ(5);
     lose(5);
+    compare::text(b"trap: idle after a sweep's scan\n");
+    differ(6);
+    compare::text(b"trap: sweeping before the hazard is stored\n");
+    differ(7);
 }

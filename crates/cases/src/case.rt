@@ -6,7 +6,7 @@ use crate::stage::Setting;
 use crate::table;
 use plain::Order;
 
-// `due` and `later` are one where no other applies, and 0 where the call is accepted. `variant` is one of six: which field of
+// `due` and `later` are one where no other applies, and 0 where the call is accepted. `variant` is one of eight: which field of
 // the call is wrong and how, or what the thread is doing.
 pub struct Case {
     pub due: usize,
@@ -25,7 +25,7 @@ impl Case {
         let op = self.operation;
         let busy = self.has(26) | ((op == 7) & !self.has(27));
         Scene {
-            doing: stage::either(busy, self.variant % 5 + 1, 0),
+            doing: stage::either(busy, self.variant % 8 + 1, 0),
             full: self.has(28) | ((op == 5) & !self.has(29)),
             slot: stage::either(self.has(31), self.variant % 2 + 1, 0),
             none_free: self.has(30),
@@ -59,7 +59,7 @@ impl Case {
         if self.has(25) {
             o.link = stage::either(far, 255, z.links);
         }
-        if self.has(0) & far {
+        if self.has(0) & far & (self.operation == 3) {
             o.slot = 255;
         }
         o

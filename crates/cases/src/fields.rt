@@ -19,24 +19,25 @@ fn line(row: usize) -> usize {
     }
 }
 
-// The variants of a case in a row: two for each field, the first three rows being a field each; the five kinds of doing; two
-// kinds of slot that is not protected; and one call that is accepted, but of swap a second that goes without a slot.
+// The variants of a case in a row: two for each field, the first three rows being a field each; the eight kinds of doing; two
+// kinds of slot that is not protected; and one call that is accepted, but of swap a second that goes without a slot,
+// and of go on one for each kind of doing.
 fn fits(row: usize, op: usize, variant: usize) -> bool {
     match row {
         0 | 1 | 2 => !table::uses(op, row) & (variant / 2 == row),
         3 => table::uses(op, table::SLOT) & (variant < 2),
         4 => table::uses(op, table::LINK) & (variant < 2),
-        5 => (op < 7) & (variant < 5),
+        5 => op < 7,
         6 => ((op == 3) | (op == 4)) & (variant < 2),
-        _ => (variant == 0) | ((op == 3) & (variant == 1)),
+        _ => (variant == 0) | ((op == 3) & (variant == 1)) | (op == 7),
     }
 }
 
 // A key is the row × 7 + the operation, from 0. A count is 24 × the variants.
 pub fn nth(n: usize) -> Tried {
-    let row = n / 1008;
-    let op = n / 144 % 7 + 1;
-    let variant = n / 24 % 6;
+    let row = n / 1344;
+    let op = n / 192 % 7 + 1;
+    let variant = n / 24 % 8;
     let case = Case {
         due: line(row),
         later: line(row),
@@ -45,7 +46,7 @@ pub fn nth(n: usize) -> Tried {
     };
     if row < 8 {
         if fits(row, op, variant) {
-            return seen::under(n / 144, case.shown(stage::chosen(n % 24)));
+            return seen::under(n / 192, case.shown(stage::chosen(n % 24)));
         }
     }
     seen::nothing()

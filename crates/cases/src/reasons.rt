@@ -1,4 +1,5 @@
-// 01's sentence on soundness, clause by clause: for each reason a state that is unsound for it alone, and its sound neighbour.
+// 01's sentence on soundness, with what request 2 adds to it, clause by clause: for each reason a state that is unsound for it
+// alone, and its sound neighbour.
 use crate::limits;
 use crate::seen;
 use crate::seen::Seen;
@@ -72,31 +73,47 @@ fn of_objects(z: Setting, k: usize, bad: bool) -> State {
 }
 
 // The same of what a thread is in the middle of: Loaded's slot, link and object, Published's slot and link, Draining's slot;
-// Look's object above N, its object 0, its position; and Swap's three.
-fn of_phases(z: Setting, k: usize, bad: bool) -> State {
-    let doing = match k {
+// Look's object above N, its object 0, its position; and Swap's three. Then, of request 2's "both are in range", Sweeping's slot
+// and link, and for its Look and its Swap those three, slot and link.
+fn doing(k: usize) -> usize {
+    match k {
         0 | 1 | 2 => 1,
         3 | 4 => 2,
         5 => 3,
         6 | 7 | 8 => 4,
+        9 | 10 | 11 => 5,
+        12 | 13 => 6,
+        14 | 15 | 16 | 17 | 18 => 7,
+        _ => 8,
+    }
+}
+
+// 1 the slot, 2 the link, 3 an object above N, 4 object 0, 5 the position.
+fn wrong(k: usize) -> usize {
+    match k {
+        0 | 3 | 5 | 12 | 17 | 22 => 1,
+        1 | 4 | 13 | 18 | 23 => 2,
+        2 | 6 | 9 | 14 | 19 => 3,
+        7 | 10 | 15 | 20 => 4,
         _ => 5,
-    };
-    let far_slot = bad & ((k == 0) | (k == 3) | (k == 5));
-    let far_link = bad & ((k == 1) | (k == 4));
-    let far_object = bad & ((k == 2) | (k == 6) | (k == 9));
-    let no_object = bad & ((k == 7) | (k == 10));
-    let far = bad & ((k == 8) | (k == 11));
-    let slot = stage::either(far_slot, z.slots, stage::last(z.slots));
-    let link = stage::either(far_link, z.links, stage::last(z.links));
-    let known = stage::either(no_object, 0, z.objects);
-    let object = stage::either(far_object, plain::up(z.objects), known);
-    let end = stage::either(doing == 4, z.positions, stage::last(z.positions));
-    let position = stage::either(far, plain::up(end), end);
+    }
+}
+
+fn of_phases(z: Setting, k: usize, bad: bool) -> State {
+    let doing = doing(k);
+    let field = stage::either(bad, wrong(k), 0);
+    let looks = (doing == 4) | (doing == 7);
+    let slot = stage::either(field == 1, z.slots, stage::last(z.slots));
+    let link = stage::either(field == 2, z.links, stage::last(z.links));
+    let known = stage::either(field == 4, 0, z.objects);
+    let object = stage::either(field == 3, plain::up(z.objects), known);
+    let end = stage::either(looks, z.positions, stage::last(z.positions));
+    let position = stage::either(field == 5, plain::up(end), end);
     let fresh = stage::fresh(z);
-    let s = if doing < 4 {
-        fresh
-    } else {
+    let s = if stage::carries(doing) {
         stage::taken(fresh, object)
+    } else {
+        fresh
     };
     let phase = stage::phase(doing, slot, link, object, position);
     stage::thread(s, stage::last(z.threads), 0, phase)
@@ -192,29 +209,30 @@ fn state(z: Setting, reason: usize, bad: bool) -> State {
     if reason < 12 {
         return of_objects(z, reason - 8, bad);
     }
-    if reason < 24 {
+    if reason < 40 {
         return of_phases(z, reason - 12, bad);
     }
-    if reason < 32 {
-        return of_beyond(z, reason - 24, bad);
+    if reason < 48 {
+        return of_beyond(z, reason - 40, bad);
     }
-    if reason < 36 {
-        return of_moved(z, reason - 32, bad);
-    }
-    if reason < 40 {
-        return of_mark_or_none(z, reason - 36, bad);
+    if reason < 52 {
+        return of_moved(z, reason - 48, bad);
     }
     if reason < 56 {
-        return of_two(z, reason - 40, bad);
+        return of_mark_or_none(z, reason - 52, bad);
     }
-    of_beyond(blank(), reason - 56, bad)
+    if reason < 72 {
+        return of_two(z, reason - 56, bad);
+    }
+    of_beyond(blank(), reason - 72, bad)
 }
 
-// The fifth line has six reasons and the seventh too. The blank state is there once.
+// The fifth line has four reasons, the seventh and the ninth have six. The blank state is there once.
 fn is_case(reason: usize, setting: usize) -> bool {
-    let fifth = (38 <= reason) & (reason < 40);
+    let fifth = (36 <= reason) & (reason < 40);
     let seventh = (54 <= reason) & (reason < 56);
-    !fifth & !seventh & ((reason < 56) | (setting == 0))
+    let ninth = (70 <= reason) & (reason < 72);
+    !fifth & !seventh & !ninth & ((reason < 72) | (setting == 0))
 }
 
 // Both checks, all seven calls and the count.
@@ -232,7 +250,7 @@ pub fn nth(n: usize) -> Tried {
     let reason = n / 48;
     let bad = n / 24 % 2 == 0;
     let z = stage::chosen(n % 24);
-    if reason < 64 {
+    if reason < 80 {
         if is_case(reason, n % 24) {
             return seen::under(n / 24, shown(state(z, reason, bad), z, bad));
         }
@@ -246,18 +264,20 @@ pub fn show(s: Seen) {
   1 T below, above, H below, above, L below, above, N below, above
   2 above N in a link, a hand, a handover, a hazard; Loaded's slot, link, object; Published's slot
   3 Published's link; Draining's slot; Look's object above N, object 0, position; Swap's object above N, object 0, position
-  4 beyond the sizes a link, a hand, a phase, a hazard, a mark, a handover, a free mark, a tag
-  5 an object beyond the sizes in a link, a hand, a handover, carried; a mark on 0; an object nowhere
-  6 an object free and in a link, a hand, a handover, carried; in a link and a link, a hand, a handover, carried
-  7 in a hand and a hand, a handover, carried; in a handover and a handover, carried; carried twice
+  4 Sweeping's slot, link; its Look's object above N, object 0, position, slot, link; its Swap's object above N
+  5 its Swap's object 0, position, slot, link
+  6 beyond the sizes a link, a hand, a phase, a hazard, a mark, a handover, a free mark, a tag
+  7 an object beyond the sizes in a link, a hand, a handover, carried; a mark on 0; an object nowhere
+  8 an object free and in a link, a hand, a handover, carried; in a link and a link, a hand, a handover, carried
+  9 in a hand and a hand, a handover, carried; in a handover and a handover, carried; carried twice
 ",
     );
-    let names = [1, 2, 3, 4, 5, 6, 7, 8, 0, 0, 0, 0];
+    let names = [1, 2, 3, 4, 5, 6, 7, 8, 9, 10, 0, 0];
     show::table(
-        b"  8 blank but for a link, a hand, a phase, a hazard, a mark, a handover, a free mark, a tag",
+        b"  10 blank but for a link, a hand, a phase, a hazard, a mark, a handover, a free mark, a tag",
         s,
         names,
-        128,
+        160,
         16,
     );
 }

@@ -112,7 +112,8 @@ pub fn freed(mut s: State, object: usize) -> State {
     s
 }
 
-// What a thread is in the middle of, by its plain number.
+// What a thread is in the middle of: 1 Loaded, 2 Published, 3 Draining, 4 Look, 5 Swap, and 6, 7 and 8 the last three after a
+// publication, to which they return.
 pub fn phase(doing: usize, slot: usize, link: usize, object: usize, position: usize) -> Phase {
     let h = plain::byte(slot);
     let l = plain::byte(link);
@@ -134,8 +135,26 @@ pub fn phase(doing: usize, slot: usize, link: usize, object: usize, position: us
             object: o,
             position: p,
         },
+        6 => Phase::Sweeping { slot: h, link: l },
+        7 => Phase::SweepLook {
+            object: o,
+            position: p,
+            slot: h,
+            link: l,
+        },
+        8 => Phase::SweepSwap {
+            object: o,
+            position: p,
+            slot: h,
+            link: l,
+        },
         _ => Phase::Idle,
     }
+}
+
+// Whether a thread that is doing this carries an object.
+pub fn carries(doing: usize) -> bool {
+    (doing == 4) | (doing == 5) | (doing == 7) | (doing == 8)
 }
 
 // What the last thread is doing, whether its hand is full, how its last slot is (0 protected, 1 a hazard without a mark, 2
@@ -157,7 +176,7 @@ pub fn built(z: Setting, c: Scene) -> State {
     let linked = link(link(out, last(z.links), 1), 0, either(c.full, 0, 2));
     let doing = phase(c.doing, last(z.slots), last(z.links), 3, 0);
     let held = thread(linked, last(z.threads), either(c.full, 2, 0), doing);
-    let left = slot(held, 0, 0, false, either(c.doing < 4, 3, 0));
+    let left = slot(held, 0, 0, false, either(carries(c.doing), 0, 3));
     let hazard = either(c.slot == 2, 0, 1);
     let ready = slot(left, last(z.positions), hazard, c.slot == 0, 0);
     if c.unsound { tag(ready, 240) } else { ready }

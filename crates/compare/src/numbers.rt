@@ -49,42 +49,45 @@ pub fn verdict(v: Verdict) -> usize {
     }
 }
 
-fn task(doing: usize, slot: usize, link: usize, seen: usize, position: usize) -> Task {
+fn task(doing: usize, slot: u8, link: u8, seen: u8, position: u8) -> Task {
     Task {
         doing,
-        slot,
-        link,
-        seen,
-        position,
+        back: false,
+        slot: plain::wide(slot),
+        link: plain::wide(link),
+        seen: plain::wide(seen),
+        position: plain::wide(position),
     }
+}
+
+// The same of a thread that returns to Published.
+fn returning(doing: usize, slot: u8, link: u8, seen: u8, position: u8) -> Task {
+    let mut t = task(doing, slot, link, seen, position);
+    t.back = true;
+    t
 }
 
 fn task_of(phase: Phase) -> Task {
     match phase {
-        Phase::Idle => task(0, 0, 0, 0, 0),
-        Phase::Loaded { slot, link, object } => task(
-            1,
-            plain::wide(slot),
-            plain::wide(link),
-            plain::wide(object),
-            0,
-        ),
-        Phase::Published { slot, link } => task(2, plain::wide(slot), plain::wide(link), 0, 0),
-        Phase::Draining { slot } => task(3, plain::wide(slot), 0, 0, 0),
-        Phase::Look { object, position } => task(
-            4,
-            0,
-            0,
-            plain::wide(object),
-            plain::wide(position),
-        ),
-        Phase::Swap { object, position } => task(
-            5,
-            0,
-            0,
-            plain::wide(object),
-            plain::wide(position),
-        ),
+        Phase::Idle => task(plain::IDLE, 0, 0, 0, 0),
+        Phase::Loaded { slot, link, object } => task(plain::LOADED, slot, link, object, 0),
+        Phase::Sweeping { slot, link } => returning(plain::DRAINING, slot, link, 0, 0),
+        Phase::Published { slot, link } => task(plain::PUBLISHED, slot, link, 0, 0),
+        Phase::Draining { slot } => task(plain::DRAINING, slot, 0, 0, 0),
+        Phase::Look { object, position } => task(plain::LOOK, 0, 0, object, position),
+        Phase::Swap { object, position } => task(plain::SWAP, 0, 0, object, position),
+        Phase::SweepLook {
+            object,
+            position,
+            slot,
+            link,
+        } => returning(plain::LOOK, slot, link, object, position),
+        Phase::SweepSwap {
+            object,
+            position,
+            slot,
+            link,
+        } => returning(plain::SWAP, slot, link, object, position),
     }
 }
 

@@ -1,4 +1,6 @@
--- Document 01, "Edges to prove", as one table. What is expected was worked out from document 01's text; each row says how.
+-- Document 01, "Edges to prove", as one table. What is expected was worked out from document 01's text and request 2's; each row says how. By
+-- request 2 the go on that publishes is followed by one that takes what is in the slot's handover along. In these runs it finds nothing and
+-- answers 3, so that a protect has 3 twice: "the run in document 01 gets one go on more after steps 4 and 7, and edge 9 a second 3".
 use Prim.Native.Nat.{ℕ}
 use mathlib.Core.Path.{_≡_, refl, subst⁻¹}
 use mathlib.Core.List.{List, [], _∷_, _++_, map}
@@ -23,14 +25,14 @@ pub record Edge : Type 0 where
 abbrev pub edge : ℕ → List (List ℕ) → List (List ℕ) → Edge
 edge number computed expected = record { number = number; computed = computed; expected = expected }
 
--- "A fresh machine has every object free, tags 0, all else 0 and idle": verdict 0, sizes, 16 links, 8 threads of 5 numbers, 32 slots of 3
+-- "A fresh machine has every object free, tags 0, all else 0 and idle": verdict 0, sizes, 16 links, 8 threads of 6 numbers, 32 slots of 3
 -- numbers, the free marks, 240 tags
 abbrev pub freshPicture : List ℕ → List ℕ → List (List ℕ)
-freshPicture sizes free = one 0 ∷ sizes ∷ zeros 16 ∷ zeros 40 ∷ zeros 96 ∷ free ∷ zeros 240 ∷ []
+freshPicture sizes free = one 0 ∷ sizes ∷ zeros 16 ∷ zeros 48 ∷ zeros 96 ∷ free ∷ zeros 240 ∷ []
 
 -- "refused 20 and returns the blank state"
 abbrev pub refusedPicture : List (List ℕ)
-refusedPicture = one 20 ∷ zeros 4 ∷ zeros 16 ∷ zeros 40 ∷ zeros 96 ∷ zeros 240 ∷ zeros 240 ∷ []
+refusedPicture = one 20 ∷ zeros 4 ∷ zeros 16 ∷ zeros 48 ∷ zeros 96 ∷ zeros 240 ∷ zeros 240 ∷ []
 
 -- nine bytes of the ten of a step
 abbrev pub nineOfStep : List ℕ
@@ -39,7 +41,7 @@ nineOfStep = 84 ∷ 75 ∷ 0 ∷ 1 ∷ 0 ∷ 0 ∷ 245 ∷ 1 ∷ 0 ∷ []
 -- the table, over what takes a step and what counts the places
 unfoldable pub edgesOf : Machine → (State → Counted) → List Edge
 edgesOf machine count =
-    -- "(1) the run above", line by line
+    -- "(1) the run above", line by line. Request 2's go ons are steps 5 and 9.
     edge 1
     (printed machine count (sizes 2 1 1 2)
     (call 0 1 0 0 501 ∷
@@ -47,7 +49,9 @@ edgesOf machine count =
     call 1 2 0 0 0 ∷
     on 1 ∷
     on 1 ∷
+    on 1 ∷
     call 0 2 0 0 0 ∷
+    on 0 ∷
     on 0 ∷
     on 0 ∷
     call 0 3 0 0 0 ∷
@@ -69,24 +73,26 @@ edgesOf machine count =
     six 2 0 3 6 0 0 ∷
     six 3 1 2 2 1 0 ∷
     six 4 1 7 3 0 0 ∷
-    six 5 1 7 4 1 501 ∷
-    six 6 0 2 2 1 0 ∷
-    six 7 0 7 3 0 0 ∷
-    six 8 0 7 4 1 501 ∷
-    six 9 0 3 6 1 0 ∷
-    six 10 0 6 2 0 0 ∷
-    six 11 0 7 9 0 0 ∷
-    six 12 0 5 2 1 0 ∷
-    six 13 0 7 3 0 0 ∷
-    six 14 0 7 3 0 0 ∷
-    six 15 0 7 10 1 1 ∷
-    six 16 1 4 8 501 0 ∷
-    six 17 1 6 2 0 0 ∷
-    six 18 1 7 3 0 0 ∷
-    six 19 1 7 3 0 0 ∷
-    six 20 1 7 11 1 0 ∷
-    six 21 0 1 1 1 0 ∷
-    six 21 1 0 1 0 0 ∷
+    six 5 1 7 3 0 0 ∷
+    six 6 1 7 4 1 501 ∷
+    six 7 0 2 2 1 0 ∷
+    six 8 0 7 3 0 0 ∷
+    six 9 0 7 3 0 0 ∷
+    six 10 0 7 4 1 501 ∷
+    six 11 0 3 6 1 0 ∷
+    six 12 0 6 2 0 0 ∷
+    six 13 0 7 9 0 0 ∷
+    six 14 0 5 2 1 0 ∷
+    six 15 0 7 3 0 0 ∷
+    six 16 0 7 3 0 0 ∷
+    six 17 0 7 10 1 1 ∷
+    six 18 1 4 8 501 0 ∷
+    six 19 1 6 2 0 0 ∷
+    six 20 1 7 3 0 0 ∷
+    six 21 1 7 3 0 0 ∷
+    six 22 1 7 11 1 0 ∷
+    six 23 0 1 1 1 0 ∷
+    six 23 1 0 1 0 0 ∷
     []) ∷
     -- "(2) T = 8 starts, T = 9 is 20": T is 1 to 8
     edge 2
@@ -157,22 +163,26 @@ edgesOf machine count =
     six 1 0 3 6 0 0 ∷
     six 1 1 0 0 0 0 ∷
     []) ∷
-    -- "(9) protect of an empty link: 2, 3, 5": Loaded with 0; the hazard 0 is published; the link still holds 0
+    -- "(9) protect of an empty link: 2, 3, 5", with "a second 3" by request 2: Loaded with 0; the hazard 0 is published; the handover has
+    -- nothing; the link still holds 0
     edge 9
     (printed machine count (sizes 1 1 1 1)
     (call 0 2 0 0 0 ∷
+    on 0 ∷
     on 0 ∷
     on 0 ∷
     []))
     (four 1 1 1 1 ∷
     six 1 0 2 2 0 0 ∷
     six 2 0 7 3 0 0 ∷
-    six 3 0 7 5 0 0 ∷
-    six 3 1 0 0 0 0 ∷
+    six 3 0 7 3 0 0 ∷
+    six 4 0 7 5 0 0 ∷
+    six 4 1 0 0 0 0 ∷
     []) ∷
     -- "(10) slots 0 and 1 of thread 0 on one object, retired and Left at slot 0: clearing slot 0 ends in Left at slot 1". Steps 1 and 2 put
-    -- object 1 into the link, 3 to 8 protect it in both slots, 9 takes it out by slot 0, 10 to 12 retire it, meet the hazard at position 0 and
-    -- leave it there. 13 zeroes that hazard and 14 takes the object up at position 0, which 15 passes; 16 meets the hazard at position 1.
+    -- object 1 into the link, 3 to 10 protect it in both slots, 11 takes it out by slot 0, 12 to 14 retire it, meet the hazard at position 0 and
+    -- leave it there. 15 zeroes that hazard and 16 takes the object up at position 0, which 17 passes; 18 meets the hazard at position 1.
+    -- Request 2's go ons are steps 5 and 9.
     edge 10
     (printed machine count (sizes 1 2 1 1)
     (call 0 1 0 0 9 ∷
@@ -180,7 +190,9 @@ edgesOf machine count =
     call 0 2 0 0 0 ∷
     on 0 ∷
     on 0 ∷
+    on 0 ∷
     call 0 2 1 0 0 ∷
+    on 0 ∷
     on 0 ∷
     on 0 ∷
     call 0 3 0 0 0 ∷
@@ -198,20 +210,22 @@ edgesOf machine count =
     six 2 0 3 6 0 0 ∷
     six 3 0 2 2 1 0 ∷
     six 4 0 7 3 0 0 ∷
-    six 5 0 7 4 1 9 ∷
-    six 6 0 2 2 1 0 ∷
-    six 7 0 7 3 0 0 ∷
-    six 8 0 7 4 1 9 ∷
-    six 9 0 3 6 1 0 ∷
-    six 10 0 5 2 1 0 ∷
-    six 11 0 7 3 0 0 ∷
-    six 12 0 7 10 1 0 ∷
-    six 13 0 6 2 0 0 ∷
-    six 14 0 7 3 0 0 ∷
-    six 15 0 7 3 0 0 ∷
+    six 5 0 7 3 0 0 ∷
+    six 6 0 7 4 1 9 ∷
+    six 7 0 2 2 1 0 ∷
+    six 8 0 7 3 0 0 ∷
+    six 9 0 7 3 0 0 ∷
+    six 10 0 7 4 1 9 ∷
+    six 11 0 3 6 1 0 ∷
+    six 12 0 5 2 1 0 ∷
+    six 13 0 7 3 0 0 ∷
+    six 14 0 7 10 1 0 ∷
+    six 15 0 6 2 0 0 ∷
     six 16 0 7 3 0 0 ∷
-    six 17 0 7 10 1 1 ∷
-    six 17 0 0 0 1 0 ∷
+    six 17 0 7 3 0 0 ∷
+    six 18 0 7 3 0 0 ∷
+    six 19 0 7 10 1 1 ∷
+    six 19 0 0 0 1 0 ∷
     []) ∷
     -- "(11) nine bytes: 40": a step's first nine bytes, and nine that bear no mark, for 40 stands before 41. The whole input is given back.
     edge 11
@@ -222,13 +236,14 @@ edgesOf machine count =
     zeros 9 ∷
     []) ∷
     -- "(12) tag 4294967295 written and read": four bytes of 255, into the first ten of twelve bytes. Then the same tag taken and read in the
-    -- machine.
+    -- machine; request 2's go on is step 5.
     edge 12
     (writtenPicture largestTag (replicate 12 7) ++
     printed machine count (sizes 1 1 1 1)
     (call 0 1 0 0 4294967295 ∷
     call 0 3 255 0 0 ∷
     call 0 2 0 0 0 ∷
+    on 0 ∷
     on 0 ∷
     on 0 ∷
     call 0 4 0 0 0 ∷
@@ -242,13 +257,14 @@ edgesOf machine count =
     six 2 0 3 6 0 0 ∷
     six 3 0 2 2 1 0 ∷
     six 4 0 7 3 0 0 ∷
-    six 5 0 7 4 1 4294967295 ∷
-    six 6 0 4 8 4294967295 0 ∷
-    six 6 0 1 0 0 0 ∷
+    six 5 0 7 3 0 0 ∷
+    six 6 0 7 4 1 4294967295 ∷
+    six 7 0 4 8 4294967295 0 ∷
+    six 7 0 1 0 0 0 ∷
     []) ∷
     []
 
--- the table of document 01's machine
+-- the table of the machine itself
 unfoldable pub edges : List Edge
 edges = edgesOf stepOf countOf
 
@@ -264,7 +280,7 @@ pub twelve-edges : map (λ row. row .number) edges ≡ 1 ∷ 2 ∷ 3 ∷ 4 ∷ 5
 unfolding edges edgesOf
 twelve-edges = refl
 
--- Every edge is as document 01 says.
+-- Every edge is as document 01 says, with request 2's steps.
 pub edges-hold : map (λ row. row .computed) edges ≡ map (λ row. row .expected) edges
 unfolding edges
 edges-hold =

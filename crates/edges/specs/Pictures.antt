@@ -5,23 +5,26 @@ use Rattle.machine.specs.declared.State.{State}
 use Rattle.entries.specs.declared.Thread.{Thread}
 use Rattle.entries.specs.declared.Slot.{Slot}
 use Rattle.entries.specs.declared.Phase.{Phase}
-use Rattle.entries.specs.declared.Phase.the-variants.{Idle, Loaded, Published, Draining, Look, Swap}
+use Rattle.entries.specs.declared.Phase.the-variants.{Idle, Loaded, Sweeping, Published, Draining, Look, Swap, SweepLook, SweepSwap}
 use Rattle.machine.specs.declared.Started.{Started}
 use Rattle.basics.specs.Counts.{bit}
 use Rattle.machine.specs.Parts.{freeAt}
 use Rattle.machine.specs.Answers.{verdictNumber}
 use Rattle.edges.specs.Runs.{sizesLine}
 
--- the number of the case, in document 01's order, then its fields; 0 for idle
+-- the number of the case, in document 01's order and then those of request 2, and its fields, four at the most; 0 for idle
 unfoldable pub phaseNumbers : Phase → List ℕ
-phaseNumbers Idle = 0 ∷ 0 ∷ 0 ∷ 0 ∷ []
-phaseNumbers (Loaded slot link object) = 1 ∷ slot ∷ link ∷ object ∷ []
-phaseNumbers (Published slot link) = 2 ∷ slot ∷ link ∷ 0 ∷ []
-phaseNumbers (Draining slot) = 3 ∷ slot ∷ 0 ∷ 0 ∷ []
-phaseNumbers (Look object position) = 4 ∷ object ∷ position ∷ 0 ∷ []
-phaseNumbers (Swap object position) = 5 ∷ object ∷ position ∷ 0 ∷ []
+phaseNumbers Idle = 0 ∷ 0 ∷ 0 ∷ 0 ∷ 0 ∷ []
+phaseNumbers (Loaded slot link object) = 1 ∷ slot ∷ link ∷ object ∷ 0 ∷ []
+phaseNumbers (Published slot link) = 2 ∷ slot ∷ link ∷ 0 ∷ 0 ∷ []
+phaseNumbers (Draining slot) = 3 ∷ slot ∷ 0 ∷ 0 ∷ 0 ∷ []
+phaseNumbers (Look object position) = 4 ∷ object ∷ position ∷ 0 ∷ 0 ∷ []
+phaseNumbers (Swap object position) = 5 ∷ object ∷ position ∷ 0 ∷ 0 ∷ []
+phaseNumbers (Sweeping slot link) = 6 ∷ slot ∷ link ∷ 0 ∷ 0 ∷ []
+phaseNumbers (SweepLook object position slot link) = 7 ∷ object ∷ position ∷ slot ∷ link ∷ []
+phaseNumbers (SweepSwap object position slot link) = 8 ∷ object ∷ position ∷ slot ∷ link ∷ []
 
--- five numbers for a thread
+-- six numbers for a thread
 unfoldable pub threadNumbers : List Thread → List ℕ
 threadNumbers [] = []
 threadNumbers (thread ∷ threads) = (thread .hand ∷ phaseNumbers (thread .phase)) ++ threadNumbers threads

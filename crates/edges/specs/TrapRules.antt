@@ -4,14 +4,14 @@ use mathlib.Core.Bool.{Bool, true, false, cond, not, _&&_, _||_}
 use lib.Dec.{leb, ltb, eqb}
 use Rattle.machine.specs.declared.State.{State}
 use Rattle.machine.specs.declared.Call.{Call}
-use Rattle.entries.specs.declared.Phase.the-variants.{Idle, Draining, Look, Swap}
+use Rattle.entries.specs.declared.Phase.the-variants.{Idle, Draining, Look}
 use Rattle.machine.specs.declared.Outcome.{Outcome}
 use Rattle.machine.specs.declared.Answer.the-variants.{Refused, Begun, Working, Protected, Nothing, Finished, Left, Freed}
 use Rattle.entries.specs.Sizes.{positions}
 use Rattle.machine.specs.Parts.{slotAt, handOf, phaseOf, positionOf, freeAt, tagOf, withThread, withSlot, withPool, become}
 use Rattle.basics.specs.Under.{allUnder}
 use Rattle.entries.specs.Entries.{withHazard, withHandover}
-use Rattle.entries.specs.Phases.{returnsTo}
+use Rattle.entries.specs.Phases.{returnsTo, looking, swapping}
 use Rattle.pool.specs.Pool.{nextOf, takenOut, putBack}
 use Rattle.machine.specs.Calls.{outcome, takeOf, protectOf}
 use Rattle.machine.specs.Step.{doneOf}
@@ -20,16 +20,18 @@ use Rattle.edges.specs.Rules.{Change, whenDraining, goesOn, atCall, atLo
 -- "Moving on after a swap": the displaced object is looked for one position on.
 unfoldable pub handOverAndMoveOn : State → ℕ → ℕ → ℕ → Outcome
 handOverAndMoveOn s t object p =
+    let back = returnsTo (phaseOf s t) in
     let old = (slotAt s p) .handover in
     let left = withSlot s p (withHandover (slotAt s p) object) in
     cond (eqb old 0)
-    (outcome (become left t (returnsTo (phaseOf s t))) (Left object p))
-    (outcome (become left t (Look old (suc p))) Working)
+    (outcome (become left t back) (Left object p))
+    (outcome (become left t (looking back old (suc p))) Working)
 
 abbrev pub movesOn : Change
 movesOn = atSwap handOverAndMoveOn
 
--- "Marking a slot at publication, without the second read of the link."
+-- "Marking a slot at publication, without the second read of the link.": the protect ends there, so request 2's step on the handover, which
+-- comes between the two, is left out with it.
 unfoldable pub publishAndMark : State → ℕ → ℕ → ℕ → ℕ → Outcome
 publishAndMark s t slot link object =
     let p = positionOf s t slot in
@@ -69,11 +71,12 @@ drainsFirst =
 -- a look where a test says whether the hazard there counts, and another whether the scan ends in this step
 unfoldable pub lookBy : (State → ℕ → ℕ → ℕ → Bool) → (State → ℕ → ℕ → ℕ → Bool) → State → ℕ → ℕ → ℕ → Outcome
 lookBy matches ends s t object p =
+    let back = returnsTo (phaseOf s t) in
     cond (ends s t object p)
-    (outcome (become (withPool s (putBack (s .pool) object) object 0) t (returnsTo (phaseOf s t))) (Freed object))
+    (outcome (become (withPool s (putBack (s .pool) object) object 0) t back) (Freed object))
     (cond (matches s t object p)
-    (outcome (become s t (Swap object p)) Working)
-    (outcome (become s t (Look object (suc p))) Working))
+    (outcome (become s t (swapping back object p)) Working)
+    (outcome (become s t (looking back object (suc p))) Working))
 
 -- the hazard at the position is the object
 abbrev pub met : State → ℕ → ℕ → ℕ → Bool

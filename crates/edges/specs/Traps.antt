@@ -1,4 +1,5 @@
--- Document 01, "Traps": calls from a fresh machine on which each changed rule fails, computed.
+-- Document 01, "Traps": calls from a fresh machine on which each changed rule fails, computed. By request 2 a protect has three go ons, where
+-- the link is as it was: one publishes, one takes what is in the slot's handover along (nothing, in these calls), and one reads the link again.
 use Prim.Native.Nat.{ℕ, suc}
 use mathlib.Core.Path.{_≡_, refl, subst⁻¹, fun-ext}
 use mathlib.Core.Bool.{_&&_}
@@ -65,7 +66,9 @@ moving-on =
           call 0 2 0 0 0 ∷
           on 0 ∷
           on 0 ∷
+          on 0 ∷
           call 1 2 0 0 0 ∷
+          on 1 ∷
           on 1 ∷
           on 1 ∷
           call 1 3 0 0 0 ∷
@@ -76,6 +79,7 @@ moving-on =
           call 0 2 0 0 0 ∷
           on 0 ∷
           on 0 ∷
+          on 0 ∷
           call 0 3 0 0 0 ∷
           call 0 5 0 0 0 ∷
           on 0 ∷
@@ -84,13 +88,13 @@ moving-on =
           on 1 ∷
           [];
       final = on 1;
-      last = six 23 1 7 11 2 0;
+      last = six 26 1 7 11 2 0;
       freed = 1;
       left = 0;
     }
 
 -- Thread 0 has read object 1 in the link when thread 1 takes it out, retires it and looks past thread 0's slot. Then thread 0 publishes. The
--- fifth call is the second read, which is refused where there is none.
+-- fifth call and the sixth are the step on the handover and the second read, which are refused where there are none.
 unfoldable pub marking-at-once : Trap
 marking-at-once =
     record {
@@ -100,6 +104,7 @@ marking-at-once =
           call 1 1 0 0 11 ∷
           call 1 3 255 0 0 ∷
           call 1 2 0 0 0 ∷
+          on 1 ∷
           on 1 ∷
           on 1 ∷
           call 0 2 0 0 0 ∷
@@ -112,7 +117,7 @@ marking-at-once =
           on 1 ∷
           [];
       final = on 1;
-      last = six 14 1 7 11 1 0;
+      last = six 15 1 7 11 1 0;
       freed = 1;
       left = 0;
     }
@@ -130,7 +135,9 @@ draining-first =
           call 1 2 0 0 0 ∷
           on 1 ∷
           on 1 ∷
+          on 1 ∷
           call 0 2 0 0 0 ∷
+          on 0 ∷
           on 0 ∷
           on 0 ∷
           call 0 3 0 0 0 ∷
@@ -143,7 +150,7 @@ draining-first =
           on 0 ∷
           [];
       final = on 1;
-      last = six 17 1 7 9 0 0;
+      last = six 19 1 7 9 0 0;
       freed = 0;
       left = 1;
     }
@@ -160,11 +167,12 @@ freeing-at-last =
           call 0 2 0 0 0 ∷
           on 0 ∷
           on 0 ∷
+          on 0 ∷
           call 0 3 0 0 0 ∷
           call 0 5 0 0 0 ∷
           [];
       final = on 0;
-      last = six 8 0 7 11 1 0;
+      last = six 9 0 7 11 1 0;
       freed = 1;
       left = 0;
     }
@@ -181,12 +189,13 @@ skipping-own =
           call 0 2 0 0 0 ∷
           on 0 ∷
           on 0 ∷
+          on 0 ∷
           call 0 3 0 0 0 ∷
           call 0 5 0 0 0 ∷
           on 0 ∷
           [];
       final = on 0;
-      last = six 9 0 7 11 1 0;
+      last = six 10 0 7 11 1 0;
       freed = 1;
       left = 0;
     }
@@ -195,7 +204,7 @@ unfoldable pub traps : List Trap
 traps = moving-on ∷ marking-at-once ∷ draining-first ∷ freeing-at-last ∷ skipping-own ∷ []
 
 -- Each changed machine ends as foretold: an object is free that a protected slot holds or, where the drain comes first, is left behind. By
--- document 01's rules the same calls do neither.
+-- the machine's own rules the same calls do neither.
 pub record AreTraps (changed : Change → Machine) (machine : Machine) : Type 0 where
   pub fail : map (λ trap. shownOn (changed (trap .rules)) trap) traps ≡ map foretold traps
   pub hold : map (λ trap. drop 1 (shownOn machine trap)) traps ≡ map (λ trap. (0 ∷ 0 ∷ []) ∷ []) traps
@@ -212,7 +221,8 @@ traps-are-traps =
     (subst⁻¹ (λ (machine : Machine). AreTraps (λ rules. quickly (doneBy rules)) machine) step-is-quick shown-quickly)
 
 -- The order of clear does not keep every object from being left behind: thread 0 has met the hazard when thread 1 zeroes and drains, and swaps
--- after that. So by document 01's rules too an object may stay in the handover of an idle thread's slot until that slot is cleared again.
+-- after that. So by the machine's own rules too an object may stay in the handover of an idle thread's slot, until that slot is cleared
+-- or a protect publishes in it.
 unfoldable pub swap-after-drain : Trap
 swap-after-drain =
     record {
@@ -224,7 +234,9 @@ swap-after-drain =
           call 1 2 0 0 0 ∷
           on 1 ∷
           on 1 ∷
+          on 1 ∷
           call 0 2 0 0 0 ∷
+          on 0 ∷
           on 0 ∷
           on 0 ∷
           call 0 3 0 0 0 ∷
@@ -237,7 +249,7 @@ swap-after-drain =
           on 1 ∷
           [];
       final = on 0;
-      last = six 17 0 7 10 1 1;
+      last = six 19 0 7 10 1 1;
       freed = 0;
       left = 1;
     }

@@ -6,64 +6,64 @@ use mathlib.Core.Bool.{Bool, true, false, false≢true}
 use borrow.Author.Tests.{lt-ltb, le-leb, ltb-true, leb-true}
 use Rattle.entries.specs.declared.Sizes.{Sizes}
 use Rattle.entries.specs.declared.Phase.{Phase}
-use Rattle.entries.specs.declared.Phase.the-variants.{Idle, Loaded, Published, Draining, Look, Swap}
+use Rattle.entries.specs.declared.Phase.the-variants.{Idle, Loaded, Sweeping, Published, Draining, Look, Swap, SweepLook, SweepSwap}
 use Rattle.basics.specs.Tests.{and-i, ands}
 use Rattle.entries.specs.Sizes.{positions}
-use Rattle.entries.specs.Phases.{isIdle, carriedBy, scansAt, atLook, returnsTo, Protect, none, protecting, phaseInRange}
+use Rattle.entries.specs.Phases.{isIdle, carriedBy, scansAt, atLook, returnsTo, looking, swapping, protecting, phaseInRange}
 
 pub idle-is : (phase : Phase) → isIdle phase ≡ true → phase ≡ Idle
 unfolding isIdle
 idle-is Idle h = refl
 idle-is (Loaded slot link object) h = absurd (false≢true h)
+idle-is (Sweeping slot link) h = absurd (false≢true h)
 idle-is (Published slot link) h = absurd (false≢true h)
 idle-is (Draining slot) h = absurd (false≢true h)
 idle-is (Look object position) h = absurd (false≢true h)
 idle-is (Swap object position) h = absurd (false≢true h)
+idle-is (SweepLook object position slot link) h = absurd (false≢true h)
+idle-is (SweepSwap object position slot link) h = absurd (false≢true h)
 
 pub idle-carries : (phase : Phase) → isIdle phase ≡ true → carriedBy phase ≡ 0
 unfolding carriedBy
 idle-carries phase h = rw (idle-is phase h)
 
+-- what a scan can return to: idle, or the protect in whose sweep it began
+pub data Back : Phase → Type 0 where
+  to-idle : Back Idle
+  to-published : (slot link : ℕ) → Back (Published slot link)
+
+pub returns-back : (phase : Phase) → Back (returnsTo phase)
+unfolding returnsTo
+returns-back Idle = to-idle
+returns-back (Loaded slot link object) = to-idle
+returns-back (Sweeping slot link) = to-idle
+returns-back (Published slot link) = to-idle
+returns-back (Draining slot) = to-idle
+returns-back (Look object position) = to-idle
+returns-back (Swap object position) = to-idle
+returns-back (SweepLook object position slot link) = to-published slot link
+returns-back (SweepSwap object position slot link) = to-published slot link
+
 -- a scan that has ended carries nothing
-pub returned-carries : (phase : Phase) → carriedBy (returnsTo phase) ≡ 0
-unfolding returnsTo carriedBy
-returned-carries Idle = refl
-returned-carries (Loaded slot link object) = refl
-returned-carries (Published slot link) = refl
-returned-carries (Draining slot) = refl
-returned-carries (Look object position) = refl
-returned-carries (Swap object position) = refl
+pub back-carries : {back : Phase} → Back back → carriedBy back ≡ 0
+unfolding carriedBy
+back-carries to-idle = refl
+back-carries (to-published slot link) = refl
 
--- nor is it in the middle of a protect
-pub returned-protects : (phase : Phase) → protecting (returnsTo phase) ≡ none
-unfolding returnsTo protecting
-returned-protects Idle = refl
-returned-protects (Loaded slot link object) = refl
-returned-protects (Published slot link) = refl
-returned-protects (Draining slot) = refl
-returned-protects (Look object position) = refl
-returned-protects (Swap object position) = refl
-
--- a thread that carries an object protects nothing meanwhile
-pub carrying-protects : (phase : Phase) → 0 < carriedBy phase → protecting phase ≡ none
-unfolding carriedBy protecting
-carrying-protects Idle some = refl
-carrying-protects (Loaded slot link object) some = absurd (omega arith)
-carrying-protects (Published slot link) some = absurd (omega arith)
-carrying-protects (Draining slot) some = refl
-carrying-protects (Look object position) some = refl
-carrying-protects (Swap object position) some = refl
+-- a scan is in the middle of the protect that it returns to, or of none
+pub scan-protects : (phase : Phase) → 0 < carriedBy phase → protecting phase ≡ protecting (returnsTo phase)
+unfolding carriedBy returnsTo protecting
+scan-protects Idle some = refl
+scan-protects (Loaded slot link object) some = absurd (omega arith)
+scan-protects (Sweeping slot link) some = absurd (omega arith)
+scan-protects (Published slot link) some = absurd (omega arith)
+scan-protects (Draining slot) some = refl
+scan-protects (Look object position) some = refl
+scan-protects (Swap object position) some = refl
+scan-protects (SweepLook object position slot link) some = refl
+scan-protects (SweepSwap object position slot link) some = refl
 
 module _ (z : Sizes) where
-  pub returned-good : (phase : Phase) → phaseInRange z phase ≡ true → phaseInRange z (returnsTo phase) ≡ true
-  unfolding returnsTo phaseInRange
-  returned-good Idle h = refl
-  returned-good (Loaded slot link object) h = refl
-  returned-good (Published slot link) h = refl
-  returned-good (Draining slot) h = refl
-  returned-good (Look object position) h = refl
-  returned-good (Swap object position) h = refl
-
   pub idle-good : phaseInRange z Idle ≡ true
   unfolding phaseInRange
   idle-good = refl
@@ -72,6 +72,10 @@ module _ (z : Sizes) where
       → phaseInRange z (Loaded slot link object) ≡ true
   unfolding phaseInRange
   loaded-good slot link object a b c = and-i (and-i (lt-ltb _ _ a) (lt-ltb _ _ b)) (le-leb _ _ c)
+
+  pub sweeping-good : (slot link : ℕ) → slot < z .slots → link < z .links → phaseInRange z (Sweeping slot link) ≡ true
+  unfolding phaseInRange
+  sweeping-good slot link a b = and-i (lt-ltb _ _ a) (lt-ltb _ _ b)
 
   pub published-good : (slot link : ℕ) → slot < z .slots → link < z .links → phaseInRange z (Published slot link) ≡ true
   unfolding phaseInRange
@@ -87,6 +91,10 @@ module _ (z : Sizes) where
       → (slot < z .slots) × (link < z .links) × (object ≤ z .objects)
   unfolding phaseInRange
   loaded-facts slot link object h = (ltb-true _ _ (search ands), ltb-true _ _ (search ands), leb-true _ _ (search ands))
+
+  pub sweeping-facts : (slot link : ℕ) → phaseInRange z (Sweeping slot link) ≡ true → (slot < z .slots) × (link < z .links)
+  unfolding phaseInRange
+  sweeping-facts slot link h = (ltb-true _ _ (search ands), ltb-true _ _ (search ands))
 
   pub published-facts : (slot link : ℕ) → phaseInRange z (Published slot link) ≡ true → (slot < z .slots) × (link < z .links)
   unfolding phaseInRange
@@ -106,6 +114,7 @@ module _ (z : Sizes) where
     pub some : 0 < o
     pub most : o ≤ z .objects
     pub good : phaseInRange z phase ≡ true
+    pub good-back : phaseInRange z back ≡ true
 
   abbrev pub AtLook : Phase → Phase → ℕ → ℕ → Type 0
   AtLook phase back o q = Scans true phase back o q
@@ -113,52 +122,97 @@ module _ (z : Sizes) where
   abbrev pub AtSwap : Phase → Phase → ℕ → ℕ → Type 0
   AtSwap phase back o q = Scans false phase back o q
 
-  pub look-scans : (back : Phase) (o q : ℕ) → returnsTo (Look o q) ≡ back → 0 < o → o ≤ z .objects → q ≤ positions z
-      → AtLook (Look o q) back o q
-  unfolding carriedBy scansAt atLook phaseInRange
-  look-scans back o q returns some most end =
+  pub look-scans : {back : Phase} → Back back → (o q : ℕ) → phaseInRange z back ≡ true → 0 < o → o ≤ z .objects → q ≤ positions z
+      → AtLook (looking back o q) back o q
+  unfolding carriedBy scansAt atLook returnsTo looking phaseInRange
+  look-scans to-idle o q fine some most end =
       record {
         carries = refl;
         at = refl;
         step = refl;
-        returns = returns;
+        returns = refl;
         some = some;
         most = most;
         good = and-i (and-i (le-leb _ _ some) (le-leb _ _ most)) (le-leb _ _ end);
+        good-back = fine;
       }
-
-  pub swap-scans : (back : Phase) (o q : ℕ) → returnsTo (Swap o q) ≡ back → 0 < o → o ≤ z .objects → q < positions z
-      → AtSwap (Swap o q) back o q
-  unfolding carriedBy scansAt atLook phaseInRange
-  swap-scans back o q returns some most end =
+  look-scans (to-published slot link) o q fine some most end =
       record {
         carries = refl;
         at = refl;
         step = refl;
-        returns = returns;
+        returns = refl;
+        some = some;
+        most = most;
+        good = and-i (and-i (and-i (le-leb _ _ some) (le-leb _ _ most)) (le-leb _ _ end)) fine;
+        good-back = fine;
+      }
+
+  pub swap-scans : {back : Phase} → Back back → (o q : ℕ) → phaseInRange z back ≡ true → 0 < o → o ≤ z .objects → q < positions z
+      → AtSwap (swapping back o q) back o q
+  unfolding carriedBy scansAt atLook returnsTo swapping phaseInRange
+  swap-scans to-idle o q fine some most end =
+      record {
+        carries = refl;
+        at = refl;
+        step = refl;
+        returns = refl;
         some = some;
         most = most;
         good = and-i (and-i (le-leb _ _ some) (le-leb _ _ most)) (lt-ltb _ _ end);
+        good-back = fine;
+      }
+  swap-scans (to-published slot link) o q fine some most end =
+      record {
+        carries = refl;
+        at = refl;
+        step = refl;
+        returns = refl;
+        some = some;
+        most = most;
+        good = and-i (and-i (and-i (le-leb _ _ some) (le-leb _ _ most)) (lt-ltb _ _ end)) fine;
+        good-back = fine;
       }
 
-  pub look-facts : (o q : ℕ) → phaseInRange z (Look o q) ≡ true → AtLook (Look o q) (returnsTo (Look o q)) o q × (q ≤ positions z)
-  unfolding phaseInRange
+  -- The other way: what a scan in range says. Each is one of the scans above.
+
+  pub look-facts : (o q : ℕ) → phaseInRange z (Look o q) ≡ true → AtLook (Look o q) Idle o q × (q ≤ positions z)
+  unfolding looking phaseInRange
   look-facts o q h =
       let end = leb-true q (positions z) (search ands) in
-      (look-scans (returnsTo (Look o q)) o q refl (leb-true _ _ (search ands)) (leb-true _ _ (search ands)) end, end)
+      (look-scans to-idle o q refl (leb-true _ _ (search ands)) (leb-true _ _ (search ands)) end, end)
 
-  pub swap-facts : (o q : ℕ) → phaseInRange z (Swap o q) ≡ true → AtSwap (Swap o q) (returnsTo (Swap o q)) o q × (q < positions z)
-  unfolding phaseInRange
+  pub swap-facts : (o q : ℕ) → phaseInRange z (Swap o q) ≡ true → AtSwap (Swap o q) Idle o q × (q < positions z)
+  unfolding swapping phaseInRange
   swap-facts o q h =
       let end = ltb-true q (positions z) (search ands) in
-      (swap-scans (returnsTo (Swap o q)) o q refl (leb-true _ _ (search ands)) (leb-true _ _ (search ands)) end, end)
+      (swap-scans to-idle o q refl (leb-true _ _ (search ands)) (leb-true _ _ (search ands)) end, end)
+
+  pub sweep-look-facts : (o q slot link : ℕ) → phaseInRange z (SweepLook o q slot link) ≡ true
+      → AtLook (SweepLook o q slot link) (Published slot link) o q × (q ≤ positions z)
+  unfolding looking phaseInRange
+  sweep-look-facts o q slot link h =
+      let end = leb-true q (positions z) (search ands) in
+      let back : phaseInRange z (Published slot link) ≡ true = search ands in
+      (look-scans (to-published slot link) o q back (leb-true _ _ (search ands)) (leb-true _ _ (search ands)) end, end)
+
+  pub sweep-swap-facts : (o q slot link : ℕ) → phaseInRange z (SweepSwap o q slot link) ≡ true
+      → AtSwap (SweepSwap o q slot link) (Published slot link) o q × (q < positions z)
+  unfolding swapping phaseInRange
+  sweep-swap-facts o q slot link h =
+      let end = ltb-true q (positions z) (search ands) in
+      let back : phaseInRange z (Published slot link) ≡ true = search ands in
+      (swap-scans (to-published slot link) o q back (leb-true _ _ (search ands)) (leb-true _ _ (search ands)) end, end)
 
   -- no phase in range carries more than an object
   pub carried-most : (phase : Phase) → phaseInRange z phase ≡ true → carriedBy phase ≤ z .objects
   unfolding carriedBy
   carried-most Idle h = omega arith
   carried-most (Loaded slot link object) h = omega arith
+  carried-most (Sweeping slot link) h = omega arith
   carried-most (Published slot link) h = omega arith
   carried-most (Draining slot) h = omega arith
   carried-most (Look o q) h = (look-facts o q h) .0 .most
   carried-most (Swap o q) h = (swap-facts o q h) .0 .most
+  carried-most (SweepLook o q slot link) h = (sweep-look-facts o q slot link h) .0 .most
+  carried-most (SweepSwap o q slot link) h = (sweep-swap-facts o q slot link h) .0 .most

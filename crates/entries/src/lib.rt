@@ -1,18 +1,17 @@
-// What a state is made of: the sizes, a thread, a slot; and whether their numbers are in range.
-mod good;
+// What a state is made of: the sizes, a thread with what it is in the middle of, a slot.
+mod phases;
 mod ranges;
 
-pub use good::links_good;
-pub use good::slots_good;
-pub use good::tags_good;
-pub use good::threads_good;
-pub use ranges::carried;
+pub use phases::carried;
+pub use phases::is_idle;
+pub use phases::looking;
+pub use phases::returns_to;
+pub use phases::scan_position;
+pub use phases::swapping;
 pub use ranges::in_range;
-pub use ranges::is_idle;
 pub use ranges::positions;
-pub use ranges::returns_to;
-pub use ranges::scan_position;
 pub use ranges::sizes_good;
+pub use ranges::within;
 
 pub struct Sizes {
     pub threads: u8,
@@ -21,14 +20,46 @@ pub struct Sizes {
     pub objects: u8,
 }
 
-// What a thread is in the middle of.
+// What a thread is in the middle of. After a publication it sweeps its slot's handover, and a scan of what stood there remembers the slot
+// and the link of the protect that it returns to.
 pub enum Phase {
     Idle,
-    Loaded { slot: u8, link: u8, object: u8 },
-    Published { slot: u8, link: u8 },
-    Draining { slot: u8 },
-    Look { object: u8, position: u8 },
-    Swap { object: u8, position: u8 },
+    Loaded {
+        slot: u8,
+        link: u8,
+        object: u8,
+    },
+    Sweeping {
+        slot: u8,
+        link: u8,
+    },
+    Published {
+        slot: u8,
+        link: u8,
+    },
+    Draining {
+        slot: u8,
+    },
+    Look {
+        object: u8,
+        position: u8,
+    },
+    Swap {
+        object: u8,
+        position: u8,
+    },
+    SweepLook {
+        object: u8,
+        position: u8,
+        slot: u8,
+        link: u8,
+    },
+    SweepSwap {
+        object: u8,
+        position: u8,
+        slot: u8,
+        link: u8,
+    },
 }
 
 pub struct Thread {

@@ -9,6 +9,7 @@ use Rattle.machine.specs.declared.Call.{Call}
 use Rattle.machine.specs.declared.Outcome.{Outcome}
 use Rattle.machine.specs.declared.Answer.the-variants.{Refused}
 use Rattle.entries.specs.Sizes.{inRange}
+use Rattle.machine.specs.Parts.{threadAt}
 use Rattle.machine.specs.Soundness.{sound}
 use Rattle.machine.specs.Fresh.{freshOf, blank}
 use Rattle.machine.specs.Answers.{numbersOf, numbers}
@@ -19,6 +20,7 @@ use Rattle.basics.specs.Rows.{FirstIs, NoneApplies}
 use Rattle.laws.specs.Ways.{Way}
 use Rattle.laws.specs.Lemmas.Inversion as inversion
 use Rattle.laws.specs.Lemmas.Kept as kept
+use Rattle.laws.specs.Lemmas.Others as others
 use Rattle.laws.specs.Lemmas.Refused as refused
 use Rattle.laws.specs.Lemmas.Starts as starts
 use Rattle.laws.specs.Lemmas.FivePlaces as five
@@ -64,6 +66,10 @@ way-keeps-sound = kept.kept
 -- and the sizes as they were
 pub way-keeps-sizes : (s : State) (c : Call) {o : Outcome} → Way s c o → o .state .sizes ≡ s .sizes
 way-keeps-sizes = kept.sizes-kept
+
+-- and what every other thread holds and is in the middle of
+pub way-keeps-others : (s : State) (c : Call) (t : ℕ) → (t ≡ c .thread → ⊥) → {o : Outcome} → Way s c o → threadAt (o .state) t ≡ threadAt s t
+way-keeps-others = others.others-kept
 
 -- every call on a sound state leaves a sound state
 pub step-keeps-sound : (s : State) (c : Call) → sound s ≡ true → sound ((stepOf s c) .state) ≡ true

@@ -8,11 +8,11 @@ use Rattle.machine.specs.declared.Call.{Call}
 use Rattle.machine.specs.declared.Outcome.{Outcome}
 use Rattle.machine.specs.declared.Answer.the-variants.{Refused, Taken, Begun, Working, Protected, Nothing, Swapped, Moved, Tag, Finished, Left, Freed}
 use Rattle.entries.specs.declared.Phase.{Phase}
-use Rattle.entries.specs.declared.Phase.the-variants.{Idle, Loaded, Published, Draining, Look}
+use Rattle.entries.specs.declared.Phase.the-variants.{Idle, Loaded, Sweeping, Published, Draining, Look}
 use Rattle.basics.specs.Rows.{FirstIs}
 use Rattle.entries.specs.Sizes.{positions}
 use Rattle.entries.specs.Entries.{withHazard, withHandover}
-use Rattle.entries.specs.Phases.{isIdle, carriedBy, phaseInRange}
+use Rattle.entries.specs.Phases.{isIdle, carriedBy, protecting, phaseInRange}
 use Rattle.entries.specs.PhaseFacts.{AtLook, AtSwap}
 use Rattle.pool.specs.Pool.{nextOf, takenOut, putBack}
 use Rattle.machine.specs.Parts.{linkAt, handOf, phaseOf, slotAt, positionOf, freeAt, tagOf, withLink, withThread, withSlot, withPool, become}
@@ -34,18 +34,25 @@ own s c slot = positionOf s (c .thread) slot
 abbrev pub named : State → Call → ℕ
 named s c = own s c (c .slot)
 
--- an accepted call of operation n
+-- an accepted call of operation n; all but go on are an idle thread's
 pub record Does (s : State) (c : Call) (n : ℕ) : Type 0 where
   pub sound : Sound s
   pub thread : c .thread < s .sizes .threads
   pub operation : c .operation ≡ n
+  pub idle : n ≤ 6 → isIdle (phase s c) ≡ true
 
--- a thread that drains its slot at position p: it carries nothing yet
-pub record Drains (s : State) (c : Call) (p : ℕ) : Type 0 where
+-- what has the handover taken in the next step, and what the thread goes on to when that is dealt with: a drain, or the sweep after a publication
+pub data Empties (phase : Phase) (slot : ℕ) (back : Phase) : Type 0 where
+  by-drain : phase ≡ Draining slot → back ≡ Idle → Empties phase slot back
+  by-sweep : (link : ℕ) → phase ≡ Sweeping slot link → back ≡ Published slot link → Empties phase slot back
+
+-- a thread that is about to take the handover at position p, its own slot's: it carries nothing yet, and is in the middle of what it goes on to
+pub record Drains (s : State) (c : Call) (back : Phase) (p : ℕ) : Type 0 where
   pub slot : ℕ
-  pub is : phase s c ≡ Draining slot
   pub at : own s c slot ≡ p
+  pub empties : Empties (phase s c) slot back
   pub carries : carriedBy (phase s c) ≡ 0
+  pub protects : protecting (phase s c) ≡ protecting back
 
 -- the slot of a swap, where it names one: it has a position and is protected
 abbrev pub NamesProtected : State → Call → Type 0
@@ -87,12 +94,12 @@ pub data Way (s : State) (c : Call) : Outcome → Type 0 where
       (outcome
       (become (withSlot s (named s c) (withHazard (slotAt s (named s c)) 0 false)) (c .thread) (Draining (c .slot)))
       (Begun 0))
-  -- go on from Loaded: the hazard is stored
+  -- go on from Loaded: the hazard is stored, and the handover is next
   publishes : {slot link o : ℕ} → Does s c 7 → phase s c ≡ Loaded slot link o → slot < s .sizes .slots → link < s .sizes .links
       → o ≤ s .sizes .objects
       → Way s c
       (outcome
-      (become (withSlot s (own s c slot) (withHazard (slotAt s (own s c slot)) o false)) (c .thread) (Published slot link))
+      (become (withSlot s (own s c slot) (withHazard (slotAt s (own s c slot)) o false)) (c .thread) (Sweeping slot link))
       Working)
   -- go on from Published: the link still holds the hazard, and the mark goes on
   protects : {slot link o : ℕ} → Does s c 7 → phase s c ≡ Published slot link → slot < s .sizes .slots → link < s .sizes .links
@@ -110,11 +117,15 @@ pub data Way (s : State) (c : Call) : Outcome → Type 0 where
       → linkAt s link ≡ o → (o ≡ (slotAt s (own s c slot)) .hazard → ⊥)
       → Way s c (outcome (become s (c .thread) (Loaded slot link o)) Working)
   -- a drain that finds nothing
-  finishes : (p : ℕ) → Does s c 7 → Drains s c p → p < positions (s .sizes) → (slotAt s p) .handover ≡ 0
+  finishes : (p : ℕ) → Does s c 7 → Drains s c Idle p → p < positions (s .sizes) → (slotAt s p) .handover ≡ 0
       → Way s c (outcome (become (withSlot s p (withHandover (slotAt s p) 0)) (c .thread) Idle) Finished)
-  -- a drain that finds an object, which is scanned from there on
-  drains : (p : ℕ) {o : ℕ} (next : Phase) → Does s c 7 → Drains s c p → p < positions (s .sizes)
-      → (slotAt s p) .handover ≡ o → AtLook (s .sizes) next Idle o p
+  -- a sweep that finds nothing: the second read is next
+  sweeps : (p : ℕ) {slot link : ℕ} → Does s c 7 → Drains s c (Published slot link) p → p < positions (s .sizes)
+      → (slotAt s p) .handover ≡ 0 → slot < s .sizes .slots → link < s .sizes .links
+      → Way s c (outcome (become (withSlot s p (withHandover (slotAt s p) 0)) (c .thread) (Published slot link)) Working)
+  -- a drain or a sweep that finds an object, which is scanned from there on
+  drains : (p : ℕ) {back : Phase} {o : ℕ} (next : Phase) → Does s c 7 → Drains s c back p → p < positions (s .sizes)
+      → (slotAt s p) .handover ≡ o → AtLook (s .sizes) next back o p
       → Way s c (outcome (become (withSlot s p (withHandover (slotAt s p) 0)) (c .thread) next) Working)
   -- a look that meets the object: a swap at that position is next
   meets : {back : Phase} {o q : ℕ} (next : Phase) → Does s c 7 → AtLook (s .sizes) (phase s c) back o q → q < positions (s .sizes)

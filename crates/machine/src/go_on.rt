@@ -1,4 +1,4 @@
-// "Go on": one step, by what the thread is in the middle of. A scan ends where its phase says that it returns to.
+// "Go on": one step, by what the thread is in the middle of. A scan goes on and ends by what its phase returns to.
 use crate::Answer;
 use crate::Outcome;
 use crate::State;
@@ -6,17 +6,19 @@ use crate::parts::position;
 use entries::Phase;
 use entries::Slot;
 use entries::Thread;
+use entries::looking;
 use entries::returns_to;
+use entries::swapping;
 ghost use mathlib.Core.Path.{_≡_};
 ghost use mathlib.Core.Bool.{true};
 ghost use Prim.Native.Nat.{_<_, _≤_};
 ghost use Rattle.entries.specs.Sizes.{positions};
 ghost use Rattle.machine.specs.Parts.{linkAt, positionOf};
 ghost use Rattle.machine.specs.Soundness.{sound};
-ghost use Rattle.machine.specs.GoOn.{publishOf, confirmOf, drainOf, lookOf, handOverOf, goOnOf};
+ghost use Rattle.machine.specs.GoOn.{publishOf, confirmOf, emptyOf, lookOf, handOverOf, goOnOf};
 
 impl State {
-    // "Loaded: store the object in the hazard, mark off, become Published."
+    // "Loaded: store the object in the hazard, mark off." The handover is next.
     fn publish(self, thread: u8, slot: u8, link: u8, object: u8) -> Outcome
         requires { ⌜ (thread < 8) × (positionOf self thread slot < 32) ⌝ }
         ensures { λ r. ⌜ r ≡ publishOf self thread slot link object ⌝ }
@@ -33,7 +35,7 @@ impl State {
         let me = self.threads[t];
         next.threads[t] = Thread {
             hand: me.hand,
-            phase: Phase::Published { slot, link },
+            phase: Phase::Sweeping { slot, link },
         };
         Outcome {
             state: next,
@@ -88,10 +90,11 @@ impl State {
         }
     }
 
-    // "Draining: take the handover and put 0 there. It was 0: idle. Otherwise Look(that object, this slot's position)."
-    fn drain(self, thread: u8, slot: u8) -> Outcome
+    // "take the handover and put 0 there": the drain of a clear, and the step after a publication. It was 0: on to `back`, with that
+    // answer. Otherwise a scan of what stood there, from this slot's position, that returns to `back`.
+    fn empty(self, thread: u8, slot: u8, back: Phase, none: Answer) -> Outcome
         requires { ⌜ (thread < 8) × (positionOf self thread slot < 32) ⌝ }
-        ensures { λ r. ⌜ r ≡ drainOf self thread slot ⌝ }
+        ensures { λ r. ⌜ r ≡ emptyOf self thread slot back none ⌝ }
     {
         let position = position(thread, self.sizes.slots, slot);
         let p = position as usize;
@@ -108,16 +111,16 @@ impl State {
         if object == 0 {
             next.threads[t] = Thread {
                 hand: me.hand,
-                phase: Phase::Idle,
+                phase: back,
             };
             return Outcome {
                 state: next,
-                answer: Answer::Finished,
+                answer: none,
             };
         }
         next.threads[t] = Thread {
             hand: me.hand,
-            phase: Phase::Look { object, position },
+            phase: looking(back, object, position),
         };
         Outcome {
             state: next,
@@ -139,13 +142,12 @@ impl State {
         let there = self.slots[p];
         let t = thread as usize;
         let me = self.threads[t];
+        let now = me.phase;
+        let back = returns_to(now);
         let phase = if there.hazard == object {
-            Phase::Swap { object, position }
+            swapping(back, object, position)
         } else {
-            Phase::Look {
-                object,
-                position: position + 1,
-            }
+            looking(back, object, position + 1)
         };
         let mut next = self;
         next.threads[t] = Thread {
@@ -158,7 +160,7 @@ impl State {
         }
     }
 
-    // "Look at T × H: object becomes free, tag 0, idle."
+    // "Look at T × H: object becomes free, tag 0", and the scan ends.
     fn let_go(self, thread: u8, object: u8) -> Outcome
         requires { ⌜ (thread < 8) × ((0 < object) × (object ≤ 240)) ⌝ }
         ensures { λ r. ⌜ r ≡ lookOf self thread object (positions (self .sizes)) ⌝ }
@@ -182,7 +184,7 @@ impl State {
         }
     }
 
-    // "Swap: put the object in that handover. It held 0 before: idle. Otherwise Look(the old one, the same position)."
+    // "Swap: put the object in that handover." It held 0 before: the scan ends. "Otherwise Look(the old one, the same position)."
     fn hand_over(self, thread: u8, object: u8, position: u8) -> Outcome
         requires { ⌜ (thread < 8) × (position < 32) ⌝ }
         ensures { λ r. ⌜ r ≡ handOverOf self thread object position ⌝ }
@@ -198,11 +200,12 @@ impl State {
         };
         let t = thread as usize;
         let me = self.threads[t];
+        let now = me.phase;
+        let back = returns_to(now);
         if old == 0 {
-            let phase = me.phase;
             next.threads[t] = Thread {
                 hand: me.hand,
-                phase: returns_to(phase),
+                phase: back,
             };
             return Outcome {
                 state: next,
@@ -211,13 +214,9 @@ impl State {
         }
         // "The same position is looked at again."
         let again = position;
-        let phase = Phase::Look {
-            object: old,
-            position: again,
-        };
         next.threads[t] = Thread {
             hand: me.hand,
-            phase,
+            phase: looking(back, old, again),
         };
         Outcome {
             state: next,
@@ -241,10 +240,26 @@ impl State {
                 answer: Answer::Refused(27),
             },
             Phase::Loaded { slot, link, object } => self.publish(thread, slot, link, object),
+            Phase::Sweeping { slot, link } => {
+                let back = Phase::Published { slot, link };
+                self.empty(thread, slot, back, Answer::Working)
+            }
             Phase::Published { slot, link } => self.confirm(thread, slot, link),
-            Phase::Draining { slot } => self.drain(thread, slot),
-            Phase::Look { object, position } => self.look(thread, object, position),
-            Phase::Swap { object, position } => self.hand_over(thread, object, position),
+            Phase::Draining { slot } => self.empty(thread, slot, Phase::Idle, Answer::Finished),
+            Phase::Look { object, position }
+            | Phase::SweepLook {
+                object,
+                position,
+                slot: _,
+                link: _,
+            } => self.look(thread, object, position),
+            Phase::Swap { object, position }
+            | Phase::SweepSwap {
+                object,
+                position,
+                slot: _,
+                link: _,
+            } => self.hand_over(thread, object, position),
         }
     }
 }

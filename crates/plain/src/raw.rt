@@ -112,6 +112,11 @@ fn object(task: Task, most: Most) -> bool {
     1 <= task.seen && task.seen <= most.objects
 }
 
+// 02: "Such a thread remembers its slot and link through the scan, and soundness asks that both are in range."
+fn returns(task: Task, most: Most) -> bool {
+    !task.back || slot_and_link(task, most)
+}
+
 // A thread "is idle, or in one of: Loaded(slot, link, object or 0), Published(slot, link), Draining(slot), Look(object,
 // position 0 to T × H), Swap(object, position below T × H)".
 fn task_fits(task: Task, most: Most) -> bool {
@@ -120,9 +125,9 @@ fn task_fits(task: Task, most: Most) -> bool {
         0 => true,
         1 => slot_and_link(task, most) && task.seen <= most.objects,
         2 => slot_and_link(task, most),
-        3 => task.slot < most.slots,
-        4 => object(task, most) && task.position <= most.positions,
-        5 => object(task, most) && task.position < most.positions,
+        3 => task.slot < most.slots && returns(task, most),
+        4 => object(task, most) && task.position <= most.positions && returns(task, most),
+        5 => object(task, most) && task.position < most.positions && returns(task, most),
         _ => false,
     }
 }

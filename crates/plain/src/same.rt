@@ -16,6 +16,7 @@ fn same(a: &[u8], b: &[u8]) -> bool {
 
 fn same_task(a: Task, b: Task) -> bool {
     (a.doing == b.doing)
+        & (a.back == b.back)
         & (a.slot == b.slot)
         & (a.link == b.link)
         & (a.seen == b.seen)

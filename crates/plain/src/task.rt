@@ -11,9 +11,12 @@ pub const LOOK: usize = 4;
 
 pub const SWAP: usize = 5;
 
-// Fields that a task does not use are 0. `seen` is the object that Loaded, Look or Swap names.
+// Fields that a task does not use are 0. `seen` is the object that Loaded, Look or Swap names. `back` is set where request 2 has
+// the thread return to Published: in the drain that follows a publication, which is called a sweep, and in the scan that comes
+// of it. Their slot and link are those of the protect.
 pub struct Task {
     pub doing: usize,
+    pub back: bool,
     pub slot: usize,
     pub link: usize,
     pub seen: usize,
@@ -44,6 +47,7 @@ impl Said {
 pub fn idle() -> Task {
     Task {
         doing: IDLE,
+        back: false,
         slot: 0,
         link: 0,
         seen: 0,
@@ -51,12 +55,13 @@ pub fn idle() -> Task {
     }
 }
 
-// Look or Swap at a position, the object not said.
-pub fn scanning(doing: usize, position: usize) -> Task {
+// Look or Swap at a position, the object not said. 02: "Such a thread remembers its slot and link through the scan".
+pub fn scanning(from: Task, doing: usize, position: usize) -> Task {
     Task {
         doing,
-        slot: 0,
-        link: 0,
+        back: from.back,
+        slot: if from.back { from.slot } else { 0 },
+        link: if from.back { from.link } else { 0 },
         seen: 0,
         position,
     }

@@ -14,8 +14,9 @@ use Rattle.pool.specs.Pool.{poolOf, isFree, nextOf, freshPool, takenOut, putBac
 use Rattle.entries.specs.declared.Sizes.{Sizes}
 use Rattle.entries.specs.declared.Thread.{Thread}
 use Rattle.entries.specs.declared.Slot.{Slot}
-use Rattle.entries.specs.Sizes.{inRange, positions}
-use Rattle.entries.specs.Phases.{isIdle, carriedBy, scansAt, returnsTo}
+use Rattle.entries.specs.declared.Phase.{Phase}
+use Rattle.entries.specs.Sizes.{within, inRange, positions}
+use Rattle.entries.specs.Phases.{isIdle, carriedBy, scansAt, returnsTo, looking, swapping}
 use Rattle.entries.specs.Entries.{idleThread, emptySlot, isObject, sizesGood, linkGood, threadGood, slotGood, tagGood}
 use Rattle.places.specs.Row.{rowOf}
 use Rattle.text.specs.Decimal.{decimal}
@@ -116,6 +117,9 @@ sizes-good-once = allowed-once _
 pub positions-once : Once positions
 positions-once = allowed-once _
 
+pub within-once : (low high : ℕ) → Once (within low high)
+within-once low high = allowed-once _
+
 pub is-idle-once : Once isIdle
 is-idle-once = allowed-once _
 
@@ -128,6 +132,14 @@ scan-position-once = allowed-once _
 pub returns-to-once : Once returnsTo
 returns-to-once = allowed-once _
 
+pub looking-once : (back : Phase) (object : ℕ) → Once (looking back object)
+looking-once back object = allowed-once _
+
+pub swapping-once : (back : Phase) (object : ℕ) → Once (swapping back object)
+swapping-once back object = allowed-once _
+
+-- ---- good
+
 pub links-good-once : (z : Sizes) → Once (λ (links : List ℕ). allUnder 16 (λ i. linkGood z i (getD links i 0)))
 links-good-once z = allowed-once _
 
@@ -139,6 +151,8 @@ slots-good-once z = allowed-once _
 
 pub tags-good-once : (z : Sizes) → Once (λ (tags : List ℕ). allUnder 240 (λ k. tagGood z k (getD tags k 0)))
 tags-good-once z = allowed-once _
+
+-- ---- places
 
 pub in-links-once : Once (howMany isObject)
 in-links-once = allowed-once _

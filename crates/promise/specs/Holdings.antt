@@ -46,8 +46,8 @@ pub record Unheld (s : State) (object : ℕ) : Type 0 where
   pub slots : (p : ℕ) → p < positions (s .sizes) → (slotAt s p) .mark ≡ true → (slotAt s p) .hazard ≡ object → ⊥
 
 -- The slot at p "is cleared or published anew" by this event, as far as the calls and their answers say it: an accepted clear of it (answered
--- 2), or a go on (answered 3) of a thread that is in the middle of a protect into it. A go on out of Published answers 3 too; the mark is off
--- by then.
+-- 2), or a go on (answered 3) of a thread that is in the middle of a protect into it. The publication is the first of these; the sweep after it, its
+-- scan and a failed second read answer 3 too, and the mark is off by then.
 module _ (perThread p : ℕ) where
   unfoldable pub renews : Memory → Event → Bool
   renews m e =

@@ -83,12 +83,11 @@ impl Twin {
         if shape != 0 {
             return shape;
         }
-        let tasks = self.task;
-        let task = twin::task_at(tasks, o.thread);
+        let busy = self.busy(o.thread);
         if o.operation == 7 {
-            return if task.doing == plain::IDLE { 27 } else { 0 };
+            return if busy { 0 } else { 27 };
         }
-        if task.doing != plain::IDLE {
+        if busy {
             return 26;
         }
         let n = self.objects;
@@ -128,18 +127,17 @@ impl Twin {
         twin::answer(self, 1, object, 0)
     }
 
-    fn protect(mut self, t: usize, slot: usize, link: usize) -> Stepped {
+    fn protect(self, t: usize, slot: usize, link: usize) -> Stepped {
         let seen = place::lowest(&self.place, self.objects, place::link(link));
-        if t < 8 {
-            self.task[t] = Task {
-                doing: plain::LOADED,
-                slot,
-                link,
-                seen,
-                position: 0,
-            };
-        }
-        twin::answer(self, 2, seen, 0)
+        let next = Task {
+            doing: plain::LOADED,
+            back: false,
+            slot,
+            link,
+            seen,
+            position: 0,
+        };
+        self.becomes(t, next, 2, seen, 0)
     }
 
     fn swap(mut self, t: usize, slot: usize, link: usize) -> Stepped {
@@ -165,32 +163,21 @@ impl Twin {
     fn retire(mut self, t: usize) -> Stepped {
         let object = place::lowest(&self.place, self.objects, place::hand(t));
         place::put(&mut self.place, object, place::carried(t));
-        if t < 8 {
-            self.task[t] = plain::scanning(plain::LOOK, 0);
-        }
-        twin::answer(self, 2, object, 0)
+        let next = plain::scanning(plain::idle(), plain::LOOK, 0);
+        self.becomes(t, next, 2, object, 0)
     }
 
-    fn clear(mut self, t: usize, slot: usize) -> Stepped {
+    fn clear(self, t: usize, slot: usize) -> Stepped {
         let p = plain::position(t, self.slots, slot);
-        if self.trap == trap::DRAIN_EARLY {
-            let left = place::lowest(&self.place, self.objects, place::handover(p));
-            place::put(&mut self.place, left, place::carried(t));
-        } else if p < 32 {
-            self.hazard[p] = 0;
-        }
-        if p < 32 {
-            self.mark[p] = false;
-        }
-        if t < 8 {
-            self.task[t] = Task {
-                doing: plain::DRAINING,
-                slot,
-                link: 0,
-                seen: 0,
-                position: 0,
-            };
-        }
-        twin::answer(self, 2, 0, 0)
+        let out = self.announce(t, p, 0, self.trap == trap::DRAIN_EARLY);
+        let next = Task {
+            doing: plain::DRAINING,
+            back: false,
+            slot,
+            link: 0,
+            seen: 0,
+            position: 0,
+        };
+        out.becomes(t, next, 2, 0, 0)
     }
 }

@@ -113,6 +113,7 @@ fn laden(mut tasks: [Task; 8], at: &[u8; 256]) -> [Task; 8] {
             let task = tasks[t];
             tasks[t] = Task {
                 doing: task.doing,
+                back: task.back,
                 slot: task.slot,
                 link: task.link,
                 seen: object,

@@ -43,10 +43,6 @@ pub fn kind(place: u8) -> usize {
     plain::wide(place / 40)
 }
 
-pub fn which(place: u8) -> usize {
-    plain::wide(place % 40)
-}
-
 // The lowest-numbered of n objects at a place, or 0.
 pub fn lowest(places: &[u8; 241], n: usize, place: u8) -> usize {
     for o in 1..241 {

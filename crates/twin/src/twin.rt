@@ -1,9 +1,10 @@
+use crate::go_on;
 use crate::num;
 use crate::place;
 use plain::Said;
 use plain::Task;
 
-// `trap` is 0, or the number of one of 01's traps that this twin falls into (trap.rt). Object o has its place at o and its tag at
+// `trap` is 0, or the number of the trap that this twin falls into (trap.rt). Object o has its place at o and its tag at
 // o - 1. What Look and Swap carry is not read off the task: it is the object whose place is "carried by this thread".
 pub struct Twin {
     pub trap: usize,
@@ -90,10 +91,6 @@ fn all_free(places: &mut [u8; 241], objects: usize) {
     }
 }
 
-pub fn task_at(tasks: [Task; 8], t: usize) -> Task {
-    if t < 8 { tasks[t] } else { plain::idle() }
-}
-
 impl Twin {
     pub fn in_trap(mut self, trap: usize) -> Twin {
         self.trap = trap;
@@ -110,6 +107,15 @@ impl Twin {
         place::lowest(&self.place, self.objects, place::hand(t)) != 0
     }
 
+    // Whether what a thread has in its hand is the hazard of a slot.
+    pub fn hand_in_hazard(self, t: usize) -> bool {
+        let object = place::lowest(&self.place, self.objects, place::hand(t));
+        if object == 0 {
+            return false;
+        }
+        num::at(&self.hazard, 0) == object || go_on::later(&self.hazard, object, 0)
+    }
+
     pub fn in_link(self, l: usize) -> usize {
         place::lowest(&self.place, self.objects, place::link(l))
     }
@@ -118,10 +124,36 @@ impl Twin {
         num::at(&self.hazard, plain::position(t, self.slots, slot))
     }
 
+    // What a thread is in the middle of, but for what it carries.
+    pub fn task_of(self, t: usize) -> Task {
+        if t < 8 { self.task[t] } else { plain::idle() }
+    }
+
     pub fn busy(self, t: usize) -> bool {
-        let tasks = self.task;
-        let task = task_at(tasks, t);
+        let task = self.task_of(t);
         task.doing != plain::IDLE
+    }
+
+    // A thread is in the middle of something else, with an answer.
+    pub fn becomes(mut self, t: usize, task: Task, number: usize, a: usize, b: usize) -> Stepped {
+        if t < 8 {
+            self.task[t] = task;
+        }
+        answer(self, number, a, b)
+    }
+
+    // A hazard anew, and its mark off. A trap that is early takes the handover here, and leaves the hazard to the drain.
+    pub fn announce(mut self, t: usize, p: usize, object: usize, early: bool) -> Twin {
+        if early {
+            let left = place::lowest(&self.place, self.objects, place::handover(p));
+            place::put(&mut self.place, left, place::carried(t));
+        } else if p < 32 {
+            self.hazard[p] = plain::byte(object);
+        }
+        if p < 32 {
+            self.mark[p] = false;
+        }
+        self
     }
 
     // T × (H + 1), the most objects that can wait to be freed.

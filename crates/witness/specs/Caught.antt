@@ -2,7 +2,7 @@
 -- one, and for two machines that nobody would accept. Draining before the hazard is zeroed is not among them: of that one it is shown, in the
 -- traps of crate edges, that on some calls it leaves an object in the handover of a slot without hazard where document 01's machine leaves
 -- none. Nothing is freed too early there, and neither that the promise holds of it nor that it fails is shown.
-use Prim.Native.Nat.{ℕ, _<_, _≤_}
+use Prim.Native.Nat.{ℕ}
 use native.Mathlib.Omega.{arith}
 use mathlib.Core.Path.{_≡_, refl, sym, ap, _∙_, subst, subst⁻¹, fun-ext}
 use mathlib.Core.Bool.{Bool, true, false, _&&_, false≢true}
@@ -71,13 +71,13 @@ rows =
     misread moving-on 1 ∷
     tooEarly marking-at-once 1 ∷
     -- its protect ends with object 1 protected, which another thread has taken out of the link meanwhile: the store finds nothing there
-    row marksAtOnce (marking-at-once .sizes) (take 12 (marking-at-once .calls)) answers ∷
+    row marksAtOnce (marking-at-once .sizes) (take 13 (marking-at-once .calls)) answers ∷
     tooEarly freeing-at-last 1 ∷
     misread freeing-at-last 0 ∷
     tooEarly skipping-own 1 ∷
     misread skipping-own 0 ∷
     -- asked to protect link 1, which is empty, it protects what is in link 0
-    row mirrorsLinks (sizes 1 1 2 1) (call 0 1 0 0 11 ∷ call 0 3 255 0 0 ∷ call 0 2 0 1 0 ∷ on 0 ∷ on 0 ∷ []) answers ∷
+    row mirrorsLinks (sizes 1 1 2 1) (call 0 1 0 0 11 ∷ call 0 3 255 0 0 ∷ call 0 2 0 1 0 ∷ on 0 ∷ on 0 ∷ on 0 ∷ []) answers ∷
     -- while thread 0 takes object 1, object 2 comes into thread 1's hand
     row parksTheLast (sizes 2 1 1 2) (call 0 1 0 0 11 ∷ []) (untaken 2) ∷
     []

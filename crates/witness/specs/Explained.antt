@@ -24,8 +24,8 @@ pub record Row : Type 0 where
 abbrev numbers : ℕ → ℕ → ℕ → ℕ → ℕ → Numbers
 numbers number a b hazard first = record { number = number; a = a; b = b; hazard = hazard; first = first }
 
--- the run of document 01, cut where a row asks about it: object 1 is taken, put into the link, protected by thread 1 and by thread 0, taken
--- out, and thread 0's slot is cleared and drained
+-- the run of document 01 with request 2's go ons, cut where a row asks about it: object 1 is taken, put into the link, protected by thread 1 and
+-- by thread 0, taken out, and thread 0's slot is cleared and drained
 
 abbrev taken : List Call
 taken = call 0 1 0 0 501 ∷ []
@@ -34,10 +34,10 @@ abbrev linked : List Call
 linked = taken ++ call 0 3 255 0 0 ∷ []
 
 abbrev protected : List Call
-protected = linked ++ (call 1 2 0 0 0 ∷ on 1 ∷ on 1 ∷ [])
+protected = linked ++ (call 1 2 0 0 0 ∷ on 1 ∷ on 1 ∷ on 1 ∷ [])
 
 abbrev takenOut : List Call
-takenOut = protected ++ (call 0 2 0 0 0 ∷ on 0 ∷ on 0 ∷ call 0 3 0 0 0 ∷ [])
+takenOut = protected ++ (call 0 2 0 0 0 ∷ on 0 ∷ on 0 ∷ on 0 ∷ call 0 3 0 0 0 ∷ [])
 
 abbrev retired : List Call
 retired = takenOut ++ (call 0 6 0 0 0 ∷ on 0 ∷ call 0 5 0 0 0 ∷ [])
@@ -48,13 +48,14 @@ left = retired ++ (on 0 ∷ on 0 ∷ on 0 ∷ [])
 abbrev cleared : List Call
 cleared = left ++ call 1 6 0 0 0 ∷ []
 
--- thread 1 publishes object 1 and does not look again; thread 0 takes it out and retires it, and its scan leaves it with thread 1
+-- thread 1 publishes object 1 and goes no further; thread 0 takes it out and retires it, and its scan leaves it with thread 1
 abbrev published : List Call
 published =
     linked ++
     (call 1 2 0 0 0 ∷
     on 1 ∷
     call 0 2 0 0 0 ∷
+    on 0 ∷
     on 0 ∷
     on 0 ∷
     call 0 3 0 0 0 ∷
@@ -85,6 +86,11 @@ rowsOf machine =
     row left 1 (numbers 4 1 1 1 1) ∷
     -- left in the handover of position 1, only published there
     row published 1 (numbers 4 1 2 1 1) ∷
+    -- request 2: thread 1 goes on and takes it along, its scan at position 1; it meets its own slot, where it will swap; and leaves it there
+    -- again
+    row (published ++ (on 1 ∷ [])) 1 (numbers 3 1 1 1 1) ∷
+    row (published ++ (on 1 ∷ on 1 ∷ [])) 1 (numbers 3 1 1 1 1) ∷
+    row (published ++ (on 1 ∷ on 1 ∷ on 1 ∷ [])) 1 (numbers 4 1 2 1 1) ∷
     -- thread 1 has cleared its slot and not drained it: the hazard is nothing
     row cleared 1 (numbers 4 1 3 0 0) ∷
     -- object 2 was never taken, and there are no objects 0 and 3

@@ -25,12 +25,14 @@ each zero calls = []
 each (suc n) calls = each n calls ++ calls n
 
 -- The thread takes an object, puts it into the link, protects it in the slot, takes it out again and retires it. Its scan looks at each position
--- up to the slot's, and then leaves it in the handover there.
+-- up to the slot's, and then leaves it in the handover there. The slot's handover is empty before that, so request 2's go on finds nothing;
+-- and as long as the thread publishes nothing else in this slot, the object stays there.
 abbrev pub leave : ℕ → ℕ → ℕ → List Call
 leave slots thread slot =
     call thread 1 0 0 0 ∷
     call thread 3 255 0 0 ∷
     call thread 2 slot 0 0 ∷
+    on thread ∷
     on thread ∷
     on thread ∷
     call thread 3 slot 0 0 ∷

@@ -30,20 +30,16 @@ use Rattle.witness.specs.Reached.{each, leave}
 abbrev fill : ℕ → List Call
 fill link = call 0 1 0 0 0 ∷ call 0 3 255 link 0 ∷ []
 
--- the thread protects what is in link 0 in its slot 0
-abbrev protect : ℕ → List Call
-protect thread = call thread 2 0 0 0 ∷ on thread ∷ on thread ∷ []
-
--- All handovers of the thread have an object. Thread 0 puts one more into link 0, the thread protects it in its slot 0, and thread 0 takes it
--- out and retires it. Its scan meets that slot. Before it swaps, the thread takes an object, clears the slot and drains it: now it has one in
--- its hand and carries the one from the handover. Then thread 0 swaps, and the handover has an object again.
+-- All handovers of the thread have an object. Thread 0 puts one more into link 0. The thread takes an object, begins to protect the one in the
+-- link in its slot 0, publishes it and takes along what is in that slot's handover: now it has one in its hand and carries the one from the
+-- handover. Then thread 0 protects what is in the link, takes it out, clears its slot and retires it. Its scan looks at each position up to that
+-- slot's, and leaves it in the handover there, which has an object again.
 abbrev handAndScan : ℕ → ℕ → List Call
 handAndScan slots thread =
     fill 0 ++
-    protect thread ++
-    protect 0 ++
-    (call 0 3 0 0 0 ∷ call 0 6 0 0 0 ∷ on 0 ∷ call 0 5 0 0 0 ∷ replicate (thread * slots + 1) (on 0)) ++
-    (call thread 1 0 0 0 ∷ call thread 6 0 0 0 ∷ on thread ∷ on 0 ∷ [])
+    (call thread 1 0 0 0 ∷ call thread 2 0 0 0 ∷ on thread ∷ on thread ∷ []) ++
+    (call 0 2 0 0 0 ∷ on 0 ∷ on 0 ∷ on 0 ∷ call 0 3 0 0 0 ∷ call 0 6 0 0 0 ∷ on 0 ∷ call 0 5 0 0 0 ∷ []) ++
+    replicate (thread * slots + 2) (on 0)
 
 -- every thread but 0 has all handovers full, a full hand, and carries an object; then thread 0 fills its own handovers, and all links
 unfoldable pub starving : ℕ → ℕ → ℕ → List Call

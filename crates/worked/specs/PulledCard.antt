@@ -13,7 +13,7 @@ use Rattle.sentences.specs.Told.{linesFrom, linesOf, textOf}
 use Rattle.schedule.specs.Input.{inputOf}
 use Rattle.worked.specs.Printing.{quickSentences, sentences-quick, printing}
 
--- sizes 2 1 1 2, then the first 16 steps as records
+-- sizes 2 1 1 2, then the first 18 steps as records
 unfoldable pub schedule : List ℕ
 schedule =
     84 ∷ 83 ∷ 2 ∷ 1 ∷ 1 ∷ 2 ∷ 0 ∷ 0 ∷ 0 ∷ 0 ∷
@@ -22,8 +22,10 @@ schedule =
     84 ∷ 75 ∷ 1 ∷ 2 ∷ 0 ∷ 0 ∷ 0 ∷ 0 ∷ 0 ∷ 0 ∷
     84 ∷ 75 ∷ 1 ∷ 7 ∷ 0 ∷ 0 ∷ 0 ∷ 0 ∷ 0 ∷ 0 ∷
     84 ∷ 75 ∷ 1 ∷ 7 ∷ 0 ∷ 0 ∷ 0 ∷ 0 ∷ 0 ∷ 0 ∷
+    84 ∷ 75 ∷ 1 ∷ 7 ∷ 0 ∷ 0 ∷ 0 ∷ 0 ∷ 0 ∷ 0 ∷
     84 ∷ 75 ∷ 0 ∷ 1 ∷ 0 ∷ 0 ∷ 90 ∷ 27 ∷ 0 ∷ 0 ∷
     84 ∷ 75 ∷ 0 ∷ 2 ∷ 0 ∷ 0 ∷ 0 ∷ 0 ∷ 0 ∷ 0 ∷
+    84 ∷ 75 ∷ 0 ∷ 7 ∷ 0 ∷ 0 ∷ 0 ∷ 0 ∷ 0 ∷ 0 ∷
     84 ∷ 75 ∷ 0 ∷ 7 ∷ 0 ∷ 0 ∷ 0 ∷ 0 ∷ 0 ∷ 0 ∷
     84 ∷ 75 ∷ 0 ∷ 7 ∷ 0 ∷ 0 ∷ 0 ∷ 0 ∷ 0 ∷ 0 ∷
     84 ∷ 75 ∷ 0 ∷ 3 ∷ 0 ∷ 0 ∷ 0 ∷ 0 ∷ 0 ∷ 0 ∷

@@ -7,10 +7,10 @@ use Rattle.beside.proofs.run.schedule.Reads as schedule-reads
 use Rattle.beside.proofs.totals.none.Reads as none-reads
 
 abbrev Inv-loop : tie.InvT-loop
-Inv-loop sum₀ n₀ sum n = n ≤ 20480
+Inv-loop sum₀ n₀ sum n = n ≤ 6144
 
 abbrev μ-loop : tie.MeasureT-loop
-μ-loop sum₀ n₀ sum n = 20480 - n
+μ-loop sum₀ n₀ sum n = 6144 - n
 
 none-requires : tie.Need-none-requires Inv-loop μ-loop
 none-requires c κs = search needs

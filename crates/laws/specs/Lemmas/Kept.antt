@@ -7,21 +7,20 @@ use lib.Dec.{eqb}
 use Rattle.machine.specs.declared.State.{State}
 use Rattle.machine.specs.declared.Call.{Call}
 use Rattle.machine.specs.declared.Outcome.{Outcome}
-use Rattle.entries.specs.declared.Slot.{Slot}
 use Rattle.entries.specs.declared.Phase.{Phase}
 use Rattle.basics.specs.Counts.{bit, bit-zero}
 use Rattle.entries.specs.Sizes.{positions}
-use Rattle.entries.specs.Phases.{carriedBy, phaseInRange}
-use Rattle.entries.specs.PhaseFacts.{idle-carries, idle-good, loaded-good, published-good, draining-good, look-scans}
+use Rattle.entries.specs.Phases.{carriedBy, phaseInRange, looking}
+use Rattle.entries.specs.PhaseFacts.{to-idle, idle-carries, idle-good, loaded-good, sweeping-good, published-good, draining-good, look-scans}
 use Rattle.entries.specs.Entries.{withHazard, withHandover}
 use Rattle.entries.specs.Facts.{SlotFacts}
 use Rattle.pool.specs.Promise.{free-is-object, taken-out, put-back}
-use Rattle.machine.specs.Parts.{linkAt, handOf, phaseOf, slotAt, withThread, withSlot}
+use Rattle.machine.specs.Parts.{handOf, phaseOf, slotAt, withThread, withSlot}
 use Rattle.machine.specs.Soundness.{placesHolding}
 use Rattle.machine.specs.Sound.{Ranged, Sound, limits, thread-long, link-long, slot-long, link-holds, its-hand, its-phase, its-slot, its-position}
 use Rattle.laws.specs.OnePlace.{carried-not-free}
 use Rattle.laws.specs.Stores.{link-ranged, thread-ranged, slot-ranged, pool-ranged, link-places, thread-places, slot-places, taken-places, freed-places}
-use Rattle.laws.specs.Ways.{Does, Way, refused, takes, begins, swaps, moves, reads, retires, clears, publishes, protects, finds-nothing, loads-again, finishes, drains, meets, passes, frees, leaves, displaces}
+use Rattle.laws.specs.Ways.{Does, Way, refused, takes, begins, swaps, moves, reads, retires, clears, publishes, protects, finds-nothing, loads-again, finishes, sweeps, drains, meets, passes, frees, leaves, displaces}
 
 -- which object a number is, as a count
 is : ℕ → ℕ → ℕ
@@ -99,7 +98,7 @@ module _ (s : State) (c : Call) where
       omega arith)
 
   pub kept : {o : Outcome} → Way s c o → Sound s → Sound (o .state)
-  unfolding is carriedBy
+  unfolding is carriedBy looking
   kept (refused first) h = h
   kept (takes {o = o} d empty next free) h =
       let r = h .ranged in
@@ -132,7 +131,7 @@ module _ (s : State) (c : Call) where
   kept (retires {o = o} d idle full some) h =
       let r = h .ranged in
       let most : o ≤ s .sizes .objects = rw (sym full) (its-hand s r (c .thread) (d .thread)) in
-      let scan = look-scans (s .sizes) _ o 0 refl some most (omega arith) in
+      let scan = look-scans (s .sizes) to-idle o 0 (idle-good (s .sizes)) some most (omega arith) in
       settled s r (c .thread) 0 _ (d .thread) (omega arith) (scan .good)
       (λ k under.
       let one = h .placed k under in
@@ -146,7 +145,7 @@ module _ (s : State) (c : Call) where
       (sym (idle-carries _ idle))
   kept (publishes {slot = slot} {link = link} {o = o} d was inside inside′ most) h =
       hazard-kept d _ o false _ (its-position s (h .ranged) (c .thread) slot (d .thread) inside) most (λ m e. false≢true m)
-      (published-good (s .sizes) slot link inside inside′)
+      (sweeping-good (s .sizes) slot link inside inside′)
       (sym (ap carriedBy was))
   kept (protects {slot = slot} {link = link} {o = o} d was inside inside′ read same some) h =
       let at = its-position s (h .ranged) (c .thread) slot (d .thread) inside in
@@ -157,6 +156,8 @@ module _ (s : State) (c : Call) where
       (loaded-good (s .sizes) slot link _ inside inside′ (rw (sym read) (link-holds s (h .ranged) link inside′)))
       (sym (ap carriedBy was))
   kept (finishes p d was inside empty) h = handover-kept d p 0 _ inside (omega arith) (was .carries) (sym empty) (idle-good (s .sizes))
+  kept (sweeps p {slot} {link} d was inside empty inside′ inside″) h =
+      handover-kept d p 0 _ inside (omega arith) (was .carries) (sym empty) (published-good (s .sizes) slot link inside′ inside″)
   kept (drains p next d was inside full scans) h =
       handover-kept d p 0 next inside (omega arith) (was .carries) (scans .carries ∙ sym full) (scans .good)
   kept (meets next d was inside match scans) h = thread-kept d next (scans .good) (scans .carries ∙ sym (was .carries))
@@ -194,6 +195,7 @@ module _ (s : State) (c : Call) where
   sizes-kept (finds-nothing d was inside inside′ read none′) = refl
   sizes-kept (loads-again d was inside inside′ read other) = refl
   sizes-kept (finishes p d was inside empty) = refl
+  sizes-kept (sweeps p d was inside empty inside′ inside″) = refl
   sizes-kept (drains p next d was inside full scans) = refl
   sizes-kept (meets next d was inside match scans) = refl
   sizes-kept (passes next d was inside other scans) = refl

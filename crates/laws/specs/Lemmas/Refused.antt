@@ -2,9 +2,8 @@
 use Prim.Native.Nat.{ℕ}
 use native.Mathlib.Omega.{arith}
 use mathlib.Core.Path.{_≡_, refl, sym, ap, _∙_, subst}
-use mathlib.Core.Bool.{true, false, not, false≢true}
+use mathlib.Core.Bool.{true, not, false≢true}
 use mathlib.Core.Logic.{_↔_}
-use lib.Dec.{eqb}
 use borrow.Author.Tests.{ne-eqb}
 use Rattle.machine.specs.declared.State.{State}
 use Rattle.machine.specs.declared.Call.{Call}
@@ -17,7 +16,7 @@ use Rattle.machine.specs.Soundness.{sound}
 use Rattle.machine.specs.Refusals.{stateRows, fieldRows, threadRows, objectRows, callRows, refusals, refusalOf}
 use Rattle.machine.specs.Accepted.{refusals-high}
 use Rattle.machine.specs.Step.{stepOf, doneOf}
-use Rattle.laws.specs.Ways.{Way, refused, takes, begins, swaps, moves, reads, retires, clears, publishes, protects, finds-nothing, loads-again, finishes, drains, meets, passes, frees, leaves, displaces}
+use Rattle.laws.specs.Ways.{Way, refused, takes, begins, swaps, moves, reads, retires, clears, publishes, protects, finds-nothing, loads-again, finishes, sweeps, drains, meets, passes, frees, leaves, displaces}
 use Rattle.laws.specs.Lemmas.Inversion.{way}
 
 module _ (s : State) (c : Call) where
@@ -35,6 +34,7 @@ module _ (s : State) (c : Call) where
   refused-way (finds-nothing d was inside inside′ read none) n e = clash (cc)
   refused-way (loads-again d was inside inside′ read other) n e = clash (cc)
   refused-way (finishes p d was inside empty) n e = clash (cc)
+  refused-way (sweeps p d was inside empty inside′ inside″) n e = clash (cc)
   refused-way (drains p next d was inside full scans) n e = clash (cc)
   refused-way (meets next d was inside match scans) n e = clash (cc)
   refused-way (passes next d was inside other scans) n e = clash (cc)

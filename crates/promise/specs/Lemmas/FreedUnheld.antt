@@ -15,7 +15,7 @@ use Rattle.pool.specs.Pool.{putBack}
 use Rattle.machine.specs.Parts.{linkAt, slotAt, handOf, withPool, become}
 use Rattle.machine.specs.Sound.{Sound, thread-long}
 use Rattle.laws.specs.OnePlace.{link-not-carried, hand-not-carried}
-use Rattle.laws.specs.Ways.{Way, refused, takes, begins, swaps, moves, reads, retires, clears, publishes, protects, finds-nothing, loads-again, finishes, drains, meets, passes, frees, leaves, displaces}
+use Rattle.laws.specs.Ways.{Way, refused, takes, begins, swaps, moves, reads, retires, clears, publishes, protects, finds-nothing, loads-again, finishes, sweeps, drains, meets, passes, frees, leaves, displaces}
 use Rattle.promise.specs.Holdings.{Unheld}
 use Rattle.promise.specs.Guard.{Guarded}
 
@@ -34,6 +34,7 @@ module _ (s : State) (c : Call) (h : Sound s) (g : Guarded s) where
   freeing (finds-nothing d was inside inside′ read none) x e = clash (cc)
   freeing (loads-again d was inside inside′ read other) x e = clash (cc)
   freeing (finishes p d was inside empty) x e = clash (cc)
+  freeing (sweeps p d was inside empty inside′ inside″) x e = clash (cc)
   freeing (drains p next d was inside full scans) x e = clash (cc)
   freeing (meets next d was inside match scans) x e = clash (cc)
   freeing (passes next d was inside other scans) x e = clash (cc)

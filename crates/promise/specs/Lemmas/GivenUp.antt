@@ -31,7 +31,7 @@ use Rattle.machine.specs.Fresh.{freshOf}
 use Rattle.machine.specs.Step.{stepOf}
 use Rattle.laws.specs.OnePlace.{carried-not-free}
 use Rattle.laws.specs.Promise.{way}
-use Rattle.laws.specs.Ways.{own, named, Does, Way, refused, takes, begins, swaps, moves, reads, retires, clears, publishes, protects, finds-nothing, loads-again, finishes, drains, meets, passes, frees, leaves, displaces}
+use Rattle.laws.specs.Ways.{own, named, Does, Way, refused, takes, begins, swaps, moves, reads, retires, clears, publishes, protects, finds-nothing, loads-again, finishes, sweeps, drains, meets, passes, frees, leaves, displaces}
 use Rattle.promise.specs.Store.{Store}
 use Rattle.promise.specs.History.{historyBy, stateBy, history, stateAfter, isRetire, isFreed}
 use Rattle.promise.specs.Reading.{Reading, noTakes, noted, recordOf, readingAfter}
@@ -242,6 +242,8 @@ module _ (s : State) (c : Call) (m : Memory) (r : Reading) (store : Store) (give
       rw (d .operation) (unmoved (thread-still d s (handOf s t) _ refl refl (λ q. refl) (sym (ap carriedBy was))))
   given-step (finishes p d was inside empty) after =
       rw (d .operation) (slot-still d p (withHandover (slotAt s p) 0) Idle inside (sym empty) (sym (was .carries)))
+  given-step (sweeps p d was inside empty inside′ inside″) after =
+      rw (d .operation) (slot-still d p (withHandover (slotAt s p) 0) _ inside (sym empty) (sym (was .carries)))
   given-step (drains p next d was inside full scans) after =
       rw (d .operation)
       (change-places d p (withHandover (slotAt s p) 0) next inside (scans .carries ∙ sym full) (sym (was .carries)))

@@ -1,6 +1,6 @@
 -- The invariant that makes freeing safe: what a marked slot holds is not free, and if it has been retired it lies at or below that slot. It is
 -- kept whichever way a call goes.
-use Prim.Native.Nat.{ℕ, suc, _<_, _≤_}
+use Prim.Native.Nat.{ℕ, _<_, _≤_}
 use native.Mathlib.Omega.{arith}
 use mathlib.Core.Path.{_≡_, refl, sym, ap, _∙_, subst}
 use mathlib.Core.Bool.{Bool, true, false, false≢true}
@@ -19,11 +19,11 @@ use Rattle.entries.specs.Entries.{thread, idleThread, emptySlot, withHazard, wi
 use Rattle.entries.specs.Phases.{carriedBy, scansAt}
 use Rattle.pool.specs.Pool.{isFree}
 use Rattle.pool.specs.Promise.{taken-out, put-back}
-use Rattle.machine.specs.Parts.{linkAt, slotAt, handOf, phaseOf, freeAt, withLink, withThread, withSlot, withPool, become}
+use Rattle.machine.specs.Parts.{linkAt, slotAt, handOf, phaseOf, freeAt, withLink, withThread, withSlot, withPool}
 use Rattle.machine.specs.Sound.{Sound, limits, thread-long, slot-long, link-holds, its-position}
 use Rattle.promise.specs.Guard.{Guard, Guarded}
 use Rattle.laws.specs.OnePlace.{link-not-free, link-not-handover, link-not-carried, carried-not-free}
-use Rattle.laws.specs.Ways.{own, Does, Way, refused, takes, begins, swaps, moves, reads, retires, clears, publishes, protects, finds-nothing, loads-again, finishes, drains, meets, passes, frees, leaves, displaces}
+use Rattle.laws.specs.Ways.{own, Does, Way, refused, takes, begins, swaps, moves, reads, retires, clears, publishes, protects, finds-nothing, loads-again, finishes, sweeps, drains, meets, passes, frees, leaves, displaces}
 
 -- what a phase carries is guarded from no position below its scan
 abbrev Reached : State → Phase → Type 0
@@ -193,6 +193,10 @@ module _ (s : State) (c : Call) (h : Sound s) (g : Guarded s) where
   guarded-kept (finds-nothing d was inside inside′ read none) = empty-guarded d _ _ refl
   guarded-kept (loads-again d was inside inside′ read other) = empty-guarded d _ _ refl
   guarded-kept (finishes p d was inside empty) =
+      exchange-guarded d p 0 _ inside
+      (λ q under marked e. let some = (g q under marked) .some in absurd (omega arith))
+      (λ some. absurd (omega arith))
+  guarded-kept (sweeps p d was inside empty inside′ inside″) =
       exchange-guarded d p 0 _ inside
       (λ q under marked e. let some = (g q under marked) .some in absurd (omega arith))
       (λ some. absurd (omega arith))

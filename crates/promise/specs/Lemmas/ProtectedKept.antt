@@ -1,5 +1,5 @@
 -- A protected slot that is neither cleared nor published anew keeps its mark and its hazard, and its object is not handed out.
-use Prim.Native.Nat.{ℕ, _+_, _<_}
+use Prim.Native.Nat.{ℕ, _<_}
 use native.Mathlib.Omega.{arith}
 use mathlib.Core.Path.{_≡_, refl, sym, ap, _∙_, subst}
 use mathlib.Core.Bool.{Bool, true, false, false≢true}
@@ -24,7 +24,7 @@ use Rattle.machine.specs.Answers.{numbersOf}
 use Rattle.machine.specs.Accepted.{refusals-high}
 use Rattle.machine.specs.Step.{stepOf}
 use Rattle.laws.specs.Promise.{way}
-use Rattle.laws.specs.Ways.{named, Way, refused, takes, begins, swaps, moves, reads, retires, clears, publishes, protects, finds-nothing, loads-again, finishes, drains, meets, passes, frees, leaves, displaces}
+use Rattle.laws.specs.Ways.{named, Way, refused, takes, begins, swaps, moves, reads, retires, clears, publishes, protects, finds-nothing, loads-again, finishes, sweeps, drains, meets, passes, frees, leaves, displaces}
 use Rattle.promise.specs.Store.{Store}
 use Rattle.promise.specs.History.{historyBy, stateBy, eventOf, history, stateAfter}
 use Rattle.promise.specs.Reading.{Reading}
@@ -113,6 +113,8 @@ module _ (s : State) (c : Call) (m : Memory) (h : Sound s) (g : Guarded s) (aske
   stays (finds-nothing d was inside inside′ read none) still = untouched _ refl (λ n. omega arith)
   stays (loads-again d was inside inside′ read other) still = untouched _ refl (λ n. omega arith)
   stays (finishes q d was inside empty) still =
+      stored q (withHandover (slotAt s q) 0) _ inside (λ k. refl) (λ n. omega arith) (λ e. (rw e marked, rw e))
+  stays (sweeps q d was inside empty inside′ inside″) still =
       stored q (withHandover (slotAt s q) 0) _ inside (λ k. refl) (λ n. omega arith) (λ e. (rw e marked, rw e))
   stays (drains q next d was inside full scans) still =
       stored q (withHandover (slotAt s q) 0) _ inside (λ k. refl) (λ n. omega arith) (λ e. (rw e marked, rw e))

@@ -1,22 +1,23 @@
 -- A thread that is in the middle of a protect is in the middle of the one that it last asked for: what the calls and their answers say of it is so.
 use Prim.Native.Nat.{ℕ, _<_}
-use mathlib.Core.Path.{_≡_, refl, ap, _∙_, subst}
+use mathlib.Core.Path.{_≡_, refl, sym, ap, _∙_}
+use mathlib.Core.Bool.{Bool}
 use Rattle.machine.specs.declared.State.{State}
 use Rattle.machine.specs.declared.Call.{Call}
 use Rattle.machine.specs.declared.Outcome.{Outcome}
 use Rattle.entries.specs.declared.Thread.{Thread}
 use Rattle.entries.specs.declared.Phase.{Phase}
-use Rattle.entries.specs.declared.Phase.the-variants.{Idle}
+use Rattle.entries.specs.declared.Phase.the-variants.{Idle, Loaded, Sweeping, Published}
 use Rattle.basics.specs.Tests.{clash}
 use Rattle.basics.specs.Lists.{at-set}
 use Rattle.basics.specs.Functions.{put, put-same, put-other}
 use Rattle.entries.specs.Entries.{thread, idleThread}
 use Rattle.entries.specs.Phases.{none, into, protecting}
-use Rattle.entries.specs.PhaseFacts.{returned-protects, carrying-protects}
+use Rattle.entries.specs.PhaseFacts.{Scans, scan-protects}
 use Rattle.machine.specs.Parts.{phaseOf, withThread}
 use Rattle.machine.specs.Sound.{Sound, thread-long}
 use Rattle.machine.specs.Answers.{numbersOf}
-use Rattle.laws.specs.Ways.{Does, Way, refused, takes, begins, swaps, moves, reads, retires, clears, publishes, protects, finds-nothing, loads-again, finishes, drains, meets, passes, frees, leaves, displaces}
+use Rattle.laws.specs.Ways.{Does, Way, refused, takes, begins, swaps, moves, reads, retires, clears, publishes, protects, finds-nothing, loads-again, finishes, sweeps, drains, meets, passes, frees, leaves, displaces}
 use Rattle.promise.specs.Asked.{Memory, remembered}
 use Rattle.promise.specs.Lemmas.Refusing.{not-accepted}
 
@@ -70,6 +71,14 @@ module _ (s : State) (c : Call) (m : Memory) (h : Sound s) (v : Remembers s m) w
       (λ u ne. (put-other (m .begun) t operation u ne, refl, refl))
       (nothing-fits phase _ _ _ nothing)
 
+  -- a phase in the middle of what the thread was in the middle of
+  goes-on : (phase : Phase) → t < s .sizes .threads → protecting (phaseOf s t) ≡ protecting phase → Fits phase (m .begun t) (m .slot t) (m .link t)
+  goes-on phase under same inside link′ e = v .fits t under inside link′ (same ∙ e)
+
+  -- a scan is in the middle of what it returns to
+  in-scan : {look : Bool} {phase back : Phase} {o q : ℕ} → Scans (s .sizes) look phase back o q → protecting phase ≡ protecting back
+  in-scan {phase = phase} scans = scan-protects phase (rw (scans .carries) (scans .some)) ∙ ap protecting (scans .returns)
+
   pub remembers-kept : {o : Outcome} → Way s c o → Remembers (o .state) (after m c o)
   unfolding remembered numbersOf protecting
   remembers-kept (refused {k = k} first) =
@@ -88,24 +97,22 @@ module _ (s : State) (c : Call) (m : Memory) (h : Sound s) (v : Remembers s m) w
   remembers-kept (reads d inside marked) = rw (d .operation) v
   remembers-kept (retires d idle full some) = rw (d .operation) (begun-other d s refl refl _ _ 5 refl)
   remembers-kept (clears d idle slot) = rw (d .operation) (begun-other d _ refl refl _ _ 6 refl)
-  remembers-kept (publishes d was inside inside′ most) =
-      rw (d .operation)
-      (kept d _ refl refl _ _ (λ sl l e. v .fits t (d .thread) sl l (ap protecting was ∙ e)))
+  remembers-kept (publishes {slot = slot} {link = link} d was inside inside′ most) =
+      rw (d .operation) (kept d _ refl refl _ _ (goes-on (Sweeping slot link) (d .thread) (ap protecting was)))
   remembers-kept (protects d was inside inside′ read same some) = rw (d .operation) (kept d _ refl refl _ _ (nothing-fits Idle _ _ _ refl))
   remembers-kept (finds-nothing d was inside inside′ read nothing) = rw (d .operation) (kept d s refl refl _ _ (nothing-fits Idle _ _ _ refl))
-  remembers-kept (loads-again d was inside inside′ read other) =
-      rw (d .operation)
-      (kept d s refl refl _ _ (λ sl l e. v .fits t (d .thread) sl l (ap protecting was ∙ e)))
+  remembers-kept (loads-again {slot = slot} {link = link} {o = o} d was inside inside′ read other) =
+      rw (d .operation) (kept d s refl refl _ _ (goes-on (Loaded slot link o) (d .thread) (ap protecting was)))
   remembers-kept (finishes p d was inside empty) = rw (d .operation) (kept d _ refl refl _ _ (nothing-fits Idle _ _ _ refl))
+  remembers-kept (sweeps p {slot} {link} d was inside empty inside′ inside″) =
+      rw (d .operation) (kept d _ refl refl _ _ (goes-on (Published slot link) (d .thread) (was .protects)))
   remembers-kept (drains p next d was inside full scans) =
-      rw (d .operation) (kept d _ refl refl _ _ (nothing-fits next _ _ _ (carrying-protects next (rw (scans .carries) (scans .some)))))
+      rw (d .operation) (kept d _ refl refl _ _ (goes-on next (d .thread) (was .protects ∙ sym (in-scan scans))))
   remembers-kept (meets next d was inside match scans) =
-      rw (d .operation) (kept d s refl refl _ _ (nothing-fits next _ _ _ (carrying-protects next (rw (scans .carries) (scans .some)))))
+      rw (d .operation) (kept d s refl refl _ _ (goes-on next (d .thread) (in-scan was ∙ sym (in-scan scans))))
   remembers-kept (passes next d was inside other scans) =
-      rw (d .operation) (kept d s refl refl _ _ (nothing-fits next _ _ _ (carrying-protects next (rw (scans .carries) (scans .some)))))
-  remembers-kept (frees next d was past ended fine) =
-      rw (d .operation) (kept d _ refl refl _ _ (nothing-fits next _ _ _ (subst (λ (x : Phase). protecting x ≡ none) (was .returns) (returned-protects (phaseOf s t)))))
-  remembers-kept (leaves next d was inside empty ended fine) =
-      rw (d .operation) (kept d _ refl refl _ _ (nothing-fits next _ _ _ (subst (λ (x : Phase). protecting x ≡ none) (was .returns) (returned-protects (phaseOf s t)))))
+      rw (d .operation) (kept d s refl refl _ _ (goes-on next (d .thread) (in-scan was ∙ sym (in-scan scans))))
+  remembers-kept (frees next d was past ended fine) = rw (d .operation) (kept d _ refl refl _ _ (goes-on next (d .thread) (in-scan was)))
+  remembers-kept (leaves next d was inside empty ended fine) = rw (d .operation) (kept d _ refl refl _ _ (goes-on next (d .thread) (in-scan was)))
   remembers-kept (displaces next d was inside full scans) =
-      rw (d .operation) (kept d _ refl refl _ _ (nothing-fits next _ _ _ (carrying-protects next (rw (scans .carries) (scans .some)))))
+      rw (d .operation) (kept d _ refl refl _ _ (goes-on next (d .thread) (in-scan was ∙ sym (in-scan scans))))

@@ -22,7 +22,7 @@ use Rattle.machine.specs.Sound.{limits, thread-long, link-long, slot-long, tag-
 use Rattle.machine.specs.Answers.{numbersOf, numbers}
 use Rattle.machine.specs.Calls.{expected}
 use Rattle.laws.specs.OnePlace.{carried-not-free}
-use Rattle.laws.specs.Ways.{named, Does, NamesProtected, Way, refused, takes, begins, swaps, moves, reads, retires, clears, publishes, protects, finds-nothing, loads-again, finishes, drains, meets, passes, frees, leaves, displaces}
+use Rattle.laws.specs.Ways.{named, Does, NamesProtected, Way, refused, takes, begins, swaps, moves, reads, retires, clears, publishes, protects, finds-nothing, loads-again, finishes, sweeps, drains, meets, passes, frees, leaves, displaces}
 use Rattle.promise.specs.Store.{Store, take, protect, swap, read, retire, clear, says, next, tagOfRecord}
 use Rattle.promise.specs.Reading.{Reading, noted, renamed, recordOf}
 use Rattle.promise.specs.Asked.{Memory}
@@ -246,6 +246,7 @@ module _ (s : State) (c : Call) (m : Memory) (r : Reading) (store : Store) (v : 
       })
   matches (loads-again d was inside inside′ is other) = none-listed s c m r store _ (rw (d .operation)) (thread-same d _)
   matches (finishes p d was inside empty) = none-listed s c m r store _ (rw (d .operation)) (handover-same d p 0 _ inside)
+  matches (sweeps p d was inside empty inside′ inside″) = none-listed s c m r store _ (rw (d .operation)) (handover-same d p 0 _ inside)
   matches (drains p next′ d was inside full scans) = none-listed s c m r store _ (rw (d .operation)) (handover-same d p 0 next′ inside)
   matches (meets next′ d was inside match scans) = none-listed s c m r store _ (rw (d .operation)) (thread-same d next′)
   matches (passes next′ d was inside other scans) = none-listed s c m r store _ (rw (d .operation)) (thread-same d next′)

@@ -13,7 +13,7 @@ use Rattle.machine.specs.declared.Outcome.{Outcome}
 use Rattle.entries.specs.declared.Slot.{Slot}
 use Rattle.entries.specs.declared.Thread.{Thread}
 use Rattle.entries.specs.declared.Phase.{Phase}
-use Rattle.entries.specs.declared.Phase.the-variants.{Idle, Loaded, Published, Draining, Look}
+use Rattle.entries.specs.declared.Phase.the-variants.{Idle, Loaded, Sweeping, Published, Draining, Look}
 use Rattle.basics.specs.Tests.{by-test}
 use Rattle.basics.specs.Counts.{bit, how-many-set, how-many-under}
 use Rattle.entries.specs.Sizes.{positions}
@@ -26,7 +26,7 @@ use Rattle.machine.specs.Parts.{slotAt, threadAt, handOf, phaseOf, withLink, wi
 use Rattle.machine.specs.Sound.{Ranged, Sound, thread-long, slot-long, its-position}
 use Rattle.machine.specs.Answers.{numbersOf}
 use Rattle.machine.specs.Count.{fivePlaces}
-use Rattle.laws.specs.Ways.{own, named, Does, Way, refused, takes, begins, swaps, moves, reads, retires, clears, publishes, protects, finds-nothing, loads-again, finishes, drains, meets, passes, frees, leaves, displaces}
+use Rattle.laws.specs.Ways.{own, named, Does, Way, refused, takes, begins, swaps, moves, reads, retires, clears, publishes, protects, finds-nothing, loads-again, finishes, sweeps, drains, meets, passes, frees, leaves, displaces}
 use Rattle.promise.specs.History.{Event, isRetire, isFreed}
 use Rattle.promise.specs.Holdings.{waiting}
 use Rattle.promise.specs.Lemmas.Refusing.{both-off, no-answer}
@@ -118,7 +118,7 @@ module _ (s : State) (c : Call) (h : Sound s) where
       rw (d .operation) (omega (arith, no-one {x = 0} refl))
   waiting-kept (publishes {slot = slot} {link = link} {o = o} d was inside inside′ most) =
       let p = own s c slot in
-      let law = slot-waits d p (withHazard (slotAt s p) o false) (Published slot link) (its-position s (h .ranged) t slot (d .thread) inside) in
+      let law = slot-waits d p (withHazard (slotAt s p) o false) (Sweeping slot link) (its-position s (h .ranged) t slot (d .thread) inside) in
       let none = no-one (ap carriedBy was) in
       rw (d .operation) (omega (arith, no-one {x = 0} refl))
   waiting-kept (protects {slot = slot} d was inside inside′ read same some) =
@@ -136,6 +136,11 @@ module _ (s : State) (c : Call) (h : Sound s) where
       rw (d .operation) (omega (arith, no-one {x = 0} refl))
   waiting-kept (finishes p d was inside empty) =
       let law = slot-waits d p (withHandover (slotAt s p) 0) Idle inside in
+      let none = no-one (was .carries) in
+      let none′ = no-one empty in
+      rw (d .operation) (omega (arith, no-one {x = 0} refl))
+  waiting-kept (sweeps p {slot} {link} d was inside empty inside′ inside″) =
+      let law = slot-waits d p (withHandover (slotAt s p) 0) (Published slot link) inside in
       let none = no-one (was .carries) in
       let none′ = no-one empty in
       rw (d .operation) (omega (arith, no-one {x = 0} refl))

@@ -17,6 +17,7 @@ use Rattle.machine.proofs.State.step.Reads as State-step-reads
 use Rattle.store.proofs.Store.hear.Reads as hear-reads
 use Rattle.store.proofs.bare.Reads as bare-reads
 use Rattle.twin.proofs.twin.Twin.step.Reads as twin-Twin-step-reads
+use Rattle.twin.proofs.twin.Twin.task_of.Reads as task-of-reads
 
 abbrev Inv-loop : tie.InvT-loop
 Inv-loop number plan state₀ w₀ store₀ sum₀ i₀ state w store sum i = i ≤ 256
@@ -47,6 +48,9 @@ loop-holds c = search needs
 
 order-requires : tie.Need-order-requires Inv-loop μ-loop
 order-requires c κs = search needs
+
+task-of-requires : tie.Need-task-of-requires Inv-loop μ-loop
+task-of-requires c κs = search needs
 
 call-requires : tie.Need-call-requires Inv-loop μ-loop
 call-requires c κs = search needs
@@ -95,6 +99,7 @@ schedule-spec =
     compared-start-requires
     loop-holds
     order-requires
+    task-of-requires
     call-requires
     step-requires
     said-requires

@@ -7,10 +7,10 @@ use Rattle.beside.proofs.draw.planned.Reads as planned-reads
 use Rattle.beside.proofs.traps.differs_at.Reads as differs-at-reads
 
 abbrev Inv-loop : tie.InvT-loop
-Inv-loop trap n₀ n = n ≤ 20480
+Inv-loop trap n₀ n = n ≤ 6144
 
 abbrev μ-loop : tie.MeasureT-loop
-μ-loop trap n₀ n = 20480 - n
+μ-loop trap n₀ n = 6144 - n
 
 loop-holds : tie.Need-loop-holds Inv-loop μ-loop
 loop-holds c = search needs

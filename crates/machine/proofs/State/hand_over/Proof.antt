@@ -7,11 +7,11 @@ use Rattle.machine.proofs.State.hand_over.Tie as tie
 
 returns : tie.Need-returns
 unfolding handOverOf
-returns c = rw (c .returns-to .ensures, eq-eqb _ _ (c .before .if1 .taken))
+returns c = rw (c .before .returns-to .ensures, eq-eqb _ _ (c .if1 .taken))
 
 returns-2 : tie.Need-returns-2
 unfolding handOverOf
-returns-2 c = rw (ne-eqb _ _ (c .if1 .left))
+returns-2 c = rw (c .looking .ensures, c .before .before .returns-to .ensures, ne-eqb _ _ (c .before .if1 .left))
 
 pub hand-over-spec : {M : Type 1} → statement M
 hand-over-spec =
@@ -27,6 +27,7 @@ hand-over-spec =
     (λ c. search needs)
     (λ c. search needs)
     returns
+    (λ c κs. search needs)
     (λ c. search needs)
     (λ c. search needs)
     returns-2)

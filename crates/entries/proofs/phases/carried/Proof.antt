@@ -1,0 +1,64 @@
+-- `carried` meets its contract: each arm knows its case.
+use borrow.Author.Needs.{needs}
+use Rattle.entries.specs.Phases.{carriedBy}
+use Rattle.entries.proofs.phases.carried.Statement.{statement}
+use Rattle.entries.proofs.phases.carried.Tie as tie
+
+returns : tie.Need-returns
+unfolding carriedBy
+returns c = search needs
+
+returns-2 : tie.Need-returns-2
+unfolding carriedBy
+returns-2 c = search needs
+
+returns-3 : tie.Need-returns-3
+unfolding carriedBy
+returns-3 c = search needs
+
+returns-4 : tie.Need-returns-4
+unfolding carriedBy
+returns-4 c = search needs
+
+returns-5 : tie.Need-returns-5
+unfolding carriedBy
+returns-5 c = search needs
+
+returns-6 : tie.Need-returns-6
+unfolding carriedBy
+returns-6 c = search needs
+
+returns-7 : tie.Need-returns-7
+unfolding carriedBy
+returns-7 c = search needs
+
+returns-8 : tie.Need-returns-8
+unfolding carriedBy
+returns-8 c = rw (c .before .phase3 .given .1)
+
+returns-9 : tie.Need-returns-9
+unfolding carriedBy
+returns-9 c = rw (c .before .phase4 .given .1)
+
+pub carried-spec : {M : Type 1} → statement M
+carried-spec =
+    tie.close
+    (tie.spec
+    (λ c. search needs)
+    (λ c. search needs)
+    (λ c. search needs)
+    (λ c. search needs)
+    (λ c. search needs)
+    (λ c. search needs)
+    (λ c. search needs)
+    (λ c. search needs)
+    (λ c. search needs)
+    returns
+    returns-2
+    returns-3
+    returns-4
+    returns-5
+    returns-6
+    returns-7
+    returns-8
+    returns-9)
