@@ -1,5 +1,5 @@
-//! The record machine in plain Rust, written from the scope page alone: the state is changed where it stands, and its soundness is
-//! checked before every call, as the rules say.
+//! The record machine in plain Rust, written from the scope page and the change requests alone: the state is changed where it stands,
+//! and its soundness is checked before every call, as the rules say.
 //!
 //! Here are the state and what each call does; the check, in the ways that are compared, and the refusals are in plain/refusing.rs.
 
@@ -41,10 +41,34 @@ impl Sizes {
 pub enum Phase {
     Idle,
     Loaded { slot: u8, link: u8, object: u8 },
+    Sweeping { slot: u8, link: u8 },
     Published { slot: u8, link: u8 },
     Draining { slot: u8 },
-    Look { object: u8, position: u8 },
-    Swap { object: u8, position: u8 },
+    Look { object: u8, position: u8, back: Back },
+    Swap { object: u8, position: u8, back: Back },
+}
+
+/// What a scan returns to: idle, or the protect in whose sweep it began.
+#[derive(Clone, Copy)]
+pub enum Back {
+    Idle,
+    Protect { slot: u8, link: u8 },
+}
+
+impl Back {
+    fn phase(self) -> Phase {
+        match self {
+            Back::Idle => Phase::Idle,
+            Back::Protect { slot, link } => Phase::Published { slot, link },
+        }
+    }
+
+    fn in_range(&self, z: &Sizes) -> bool {
+        match *self {
+            Back::Idle => true,
+            Back::Protect { slot, link } => slot < z.slots && link < z.links,
+        }
+    }
 }
 
 impl Phase {
@@ -64,10 +88,10 @@ impl Phase {
         match *self {
             Phase::Idle => true,
             Phase::Loaded { slot, link, object } => slot < z.slots && link < z.links && object <= z.objects,
-            Phase::Published { slot, link } => slot < z.slots && link < z.links,
+            Phase::Sweeping { slot, link } | Phase::Published { slot, link } => slot < z.slots && link < z.links,
             Phase::Draining { slot } => slot < z.slots,
-            Phase::Look { object, position } => one(object) && position <= z.positions(),
-            Phase::Swap { object, position } => one(object) && position < z.positions(),
+            Phase::Look { object, position, back } => one(object) && position <= z.positions() && back.in_range(z),
+            Phase::Swap { object, position, back } => one(object) && position < z.positions() && back.in_range(z),
         }
     }
 }
@@ -202,7 +226,7 @@ impl State {
             5 => {
                 let thread = &mut self.threads[at];
                 let object = std::mem::take(&mut thread.hand);
-                thread.phase = Phase::Look { object, position: 0 };
+                thread.phase = Phase::Look { object, position: 0, back: Back::Idle };
                 Answer::Begun(object)
             }
             6 => {
@@ -226,8 +250,9 @@ impl State {
                 let position = self.position(number, slot);
                 self.slots[position].hazard = object;
                 self.slots[position].mark = false;
-                (Phase::Published { slot, link }, Answer::Working)
+                (Phase::Sweeping { slot, link }, Answer::Working)
             }
+            Phase::Sweeping { slot, link } => self.emptied(number, slot, Back::Protect { slot, link }, Answer::Working),
             Phase::Published { slot, link } => {
                 let object = self.links[link as usize];
                 let position = self.position(number, slot);
@@ -241,34 +266,37 @@ impl State {
                     (Phase::Idle, Answer::Protected(object, self.tags[object as usize - 1]))
                 }
             }
-            Phase::Draining { slot } => {
-                let position = self.position(number, slot);
-                match std::mem::take(&mut self.slots[position].handover) {
-                    0 => (Phase::Idle, Answer::Finished),
-                    object => (Phase::Look { object, position: position as u8 }, Answer::Working),
-                }
-            }
-            Phase::Look { object, position } if position >= end => {
+            Phase::Draining { slot } => self.emptied(number, slot, Back::Idle, Answer::Finished),
+            Phase::Look { object, position, back } if position >= end => {
                 self.free[object as usize - 1] = true;
                 self.tags[object as usize - 1] = 0;
-                (Phase::Idle, Answer::Freed(object))
+                (back.phase(), Answer::Freed(object))
             }
-            Phase::Look { object, position } => {
+            Phase::Look { object, position, back } => {
                 if self.slots[position as usize].hazard == object {
-                    (Phase::Swap { object, position }, Answer::Working)
+                    (Phase::Swap { object, position, back }, Answer::Working)
                 } else {
-                    (Phase::Look { object, position: position + 1 }, Answer::Working)
+                    (Phase::Look { object, position: position + 1, back }, Answer::Working)
                 }
             }
-            Phase::Swap { object, position } => {
+            Phase::Swap { object, position, back } => {
                 match std::mem::replace(&mut self.slots[position as usize].handover, object) {
-                    0 => (Phase::Idle, Answer::Left(object, position)),
-                    old => (Phase::Look { object: old, position }, Answer::Working),
+                    0 => (back.phase(), Answer::Left(object, position)),
+                    old => (Phase::Look { object: old, position, back }, Answer::Working),
                 }
             }
         };
         self.threads[at].phase = phase;
         answer
+    }
+
+    /// Takes a slot's handover: on to `back` where it was empty, with that answer, or else a scan of what stood there.
+    fn emptied(&mut self, number: u8, slot: u8, back: Back, none: Answer) -> (Phase, Answer) {
+        let position = self.position(number, slot);
+        match std::mem::take(&mut self.slots[position].handover) {
+            0 => (back.phase(), none),
+            object => (Phase::Look { object, position: position as u8, back }, Answer::Working),
+        }
     }
 
     /// Objects free, in links, in hands, in handovers, carried; five zeros where the state is not sound.

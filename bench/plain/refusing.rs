@@ -1,6 +1,6 @@
 //! Whether a state is sound, and whether a call is refused.
 
-use super::{Call, Phase, Slot, State, Thread, LINKS, SLOTS, THREADS};
+use super::{Call, State, LINKS, SLOTS, THREADS};
 
 /// How the check finds out that each object is in one place, and how it goes through the arrays.
 ///
