@@ -43,11 +43,14 @@ pub record Sweeps (s : State) (c : Call) (slot link : ℕ) (o : Outcome) : Type 
       → AtLook (s .sizes) (phaseOf (o .state) (c .thread)) (Published slot link) x (positionOf s (c .thread) slot)
 
 -- What becomes, in any further calls, of an object that thread t carries at position p: it is freed by that thread, or left by it in a handover
--- from p on, unless the thread has taken fewer than `most` steps of its own since. Until then it carries it, at p or further on.
+-- from p on, in a step before which it carried it still, unless the thread has taken fewer than `most` steps of its own since. Until then it
+-- carries it, at p or further on.
 pub data Fate (s : State) (t p o most : ℕ) (calls : List Call) : Type 0 where
   carried : carriedBy (phaseOf (stateAfter s calls) t) ≡ o → p ≤ scansAt (phaseOf (stateAfter s calls) t)
       → ownSteps t (history s calls) < most → Fate s t p o most calls
   freed : (before after : List Call) (c : Call) → calls ≡ before ++ (c ∷ after) → c .thread ≡ t
+      → carriedBy (phaseOf (stateAfter s before) t) ≡ o → ownSteps t (history s before) < most
       → (stepOf (stateAfter s before) c) .answer ≡ Freed o → Fate s t p o most calls
-  left : (before after : List Call) (c : Call) (q : ℕ) → calls ≡ before ++ (c ∷ after) → c .thread ≡ t → p ≤ q → q < positions (s .sizes)
+  left : (before after : List Call) (c : Call) (q : ℕ) → calls ≡ before ++ (c ∷ after) → c .thread ≡ t
+      → carriedBy (phaseOf (stateAfter s before) t) ≡ o → ownSteps t (history s before) < most → p ≤ q → q < positions (s .sizes)
       → (slotAt ((stepOf (stateAfter s before) c) .state) q) .handover ≡ o → Fate s t p o most calls

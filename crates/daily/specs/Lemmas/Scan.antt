@@ -115,10 +115,10 @@ module _ (t p o : ℕ) where
       → (stepOf s c) .state .sizes ≡ s .sizes → Fate ((stepOf s c) .state) t p o most′ calls → Fate s t p o most (c ∷ calls)
   unfolding historyBy stateBy howMany
   one-before s c calls most most′ fits sizes (carried is at few) = carried is at (omega arith)
-  one-before s c calls most most′ fits sizes (freed before after d split own is) =
-      freed (c ∷ before) after d (ap (λ (l : List Call). c ∷ l) split) own is
-  one-before s c calls most most′ fits sizes (left before after d q split own low inside is) =
-      left (c ∷ before) after d q (ap (λ (l : List Call). c ∷ l) split) own low (rw (← sizes) inside) is
+  one-before s c calls most most′ fits sizes (freed before after d split own had few is) =
+      freed (c ∷ before) after d (ap (λ (l : List Call). c ∷ l) split) own had (omega arith) is
+  one-before s c calls most most′ fits sizes (left before after d q split own had few low inside is) =
+      left (c ∷ before) after d q (ap (λ (l : List Call). c ∷ l) split) own had (omega arith) low (rw (← sizes) inside) is
 
   -- a scan in the next state, whose sizes are the same
   pub moved : (s s′ : State) {look : Bool} {back : Phase} {q : ℕ} → s′ .sizes ≡ s .sizes → {u : ℕ} → u ≡ t
@@ -129,17 +129,19 @@ module _ (t p o : ℕ) where
 
   -- a step of the thread's own, where the rest of the calls is known
   stepped : (s : State) (c : Call) (calls : List Call) (look : Bool) (back : Phase) (q : ℕ) → (stepOf s c) .state .sizes ≡ s .sizes
-      → isStepOf t (eventOf s c) ≡ true → c .thread ≡ t → p ≤ q
+      → isStepOf t (eventOf s c) ≡ true → c .thread ≡ t → carriedBy (phaseOf s t) ≡ o → p ≤ q
       → ((look′ : Bool) (q′ : ℕ) → Scans ((stepOf s c) .state .sizes) look′ (phaseOf ((stepOf s c) .state) t) back o q′ → p ≤ q′
       → Fate ((stepOf s c) .state) t p o (stepsLeft ((stepOf s c) .state .sizes) look′ q′) calls)
       → Turn s c o q look back (stepOf s c) → Fate s t p o (stepsLeft (s .sizes) look q) (c ∷ calls)
-  unfolding stepsLeft bit stateBy
-  stepped s c calls look back q sizes own is low later (to-swap l inside scans) =
+  unfolding stepsLeft bit historyBy stateBy howMany
+  stepped s c calls look back q sizes own is had low later (to-swap l inside scans) =
       one-before s c calls _ _ (rw (own, l) (omega arith)) sizes (later false q (moved s ((stepOf s c) .state) sizes is scans) low)
-  stepped s c calls look back q sizes own is low later (to-look l inside scans) =
+  stepped s c calls look back q sizes own is had low later (to-look l inside scans) =
       one-before s c calls _ _ (rw (own, l, sizes) (omega arith)) sizes (later true (suc q) (moved s ((stepOf s c) .state) sizes is scans) (omega arith))
-  stepped s c calls look back q sizes own is low later (let-go gone) = freed [] calls c refl is gone
-  stepped s c calls look back q sizes own is low later (left-there inside there) = left [] calls c q refl is low inside there
+  stepped s c calls look back q sizes own is had low later (let-go gone) =
+      freed [] calls c refl is had (some-left (s .sizes) look q) gone
+  stepped s c calls look back q sizes own is had low later (left-there inside there) =
+      left [] calls c q refl is had (some-left (s .sizes) look q) low inside there
 
   from-here : (calls : List Call) (s : State) → Sound s → (look : Bool) (back : Phase) (q : ℕ) → Scans (s .sizes) look (phaseOf s t) back o q
       → p ≤ q → Fate s t p o (stepsLeft (s .sizes) look q) calls
@@ -154,7 +156,7 @@ module _ (t p o : ℕ) where
       by-test (Fate s t p o (stepsLeft (s .sizes) look q) (c ∷ calls)) (isStepOf t (eventOf s c))
       (λ own.
       let is : c .thread ≡ t = eqb-true _ _ (search (ands, own)) in
-      stepped s c calls look back q sizes own is low
+      stepped s c calls look back q sizes own is (at .carries) low
       (λ look′ q′ at′ low′. from-here calls s′ sound′ look′ back q′ at′ low′)
       (turn s c h o q look back (subst (λ (u : ℕ). Scans (s .sizes) look (phaseOf s u) back o q) (sym is) at) w (search (ands, own))))
       (λ other.
