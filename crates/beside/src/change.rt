@@ -284,6 +284,6 @@ pub fn judged(before: Totals, plan: Plan, index: usize, reached: State) -> Total
     let w = twin::of(compare::raw(s));
     let order = draw::order(plan, index ^ 256, w);
     let b = compare::called(s, order);
-    let seen = before.soundness(b.sound, b.checks).see(b.number);
+    let seen = before.soundness(b.sound, b.checks).answer(b.said);
     seen.call(b.answers).state(b.states).count(b.counts)
 }

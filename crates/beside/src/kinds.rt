@@ -1,155 +1,74 @@
-// How often each kind of go on was seen. Its kind is worked out from what the thread was in the middle of, what it is in the
-// middle of then, and the answer.
-use plain::Task;
+// How often each kind of go on was seen. The answer says the kind: a 3 says what was done, any other how something ended. What a
+// 3 says is held to what the thread was in the middle of, before and after (`compare::fits`).
+use crate::tally;
+use crate::tally::Tally;
+use plain::Said;
 
-// Drains after a clear, or those after a publication, by what the handover held.
-pub struct Drains {
-    pub nothing: usize,
-    pub something: usize,
-}
+// The kinds that are answered 3, by request 7's numbers. A second read finds something else in the link and loads it. A look
+// passes its position or meets the object there, a swap displaces another object. A drain finds something, or, after a
+// publication, nothing.
+pub const PUBLISHES: usize = 1;
 
-// The steps of scans that return to idle, or of those that return to Published. A look passes its position or meets the object
-// there, or frees at the end; a swap leaves the object in an empty handover, or displaces another.
-pub struct Scans {
-    pub passes: usize,
-    pub meets: usize,
-    pub frees: usize,
-    pub leaves: usize,
-    pub displaces: usize,
-}
+pub const LOADS: usize = 2;
 
-// A second read protects, finds that the link still holds nothing, or loads again.
+pub const PASSES: usize = 3;
+
+pub const MEETS: usize = 4;
+
+pub const DISPLACES: usize = 5;
+
+pub const FINDS: usize = 6;
+
+pub const SWEPT: usize = 7;
+
+// The others: a second read protects or finds that there is still nothing, a drain after a clear finds nothing, a swap leaves the
+// object in an empty handover, a look at the end frees it.
+pub const PROTECTS: usize = 8;
+
+pub const NOTHING: usize = 9;
+
+pub const DRAINED: usize = 10;
+
+pub const LEAVES: usize = 11;
+
+pub const FREES: usize = 12;
+
+// By the kind: of threads that return to idle, and of those in a sweep or in its scan, which return to Published.
 pub struct Kinds {
-    pub published: usize,
-    pub protects: usize,
-    pub nothing: usize,
-    pub again: usize,
-    pub drains: Drains,
-    pub sweeps: Drains,
-    pub to_idle: Scans,
-    pub to_published: Scans,
-}
-
-fn no_drains() -> Drains {
-    Drains {
-        nothing: 0,
-        something: 0,
-    }
-}
-
-fn no_scans() -> Scans {
-    Scans {
-        passes: 0,
-        meets: 0,
-        frees: 0,
-        leaves: 0,
-        displaces: 0,
-    }
+    pub to_idle: Tally,
+    pub to_published: Tally,
 }
 
 pub fn none() -> Kinds {
     Kinds {
-        published: 0,
-        protects: 0,
-        nothing: 0,
-        again: 0,
-        drains: no_drains(),
-        sweeps: no_drains(),
-        to_idle: no_scans(),
-        to_published: no_scans(),
+        to_idle: tally::none(),
+        to_published: tally::none(),
     }
 }
 
-impl Drains {
-    fn see(mut self, after: Task) -> Drains {
-        if after.doing == plain::LOOK {
-            self.something = plain::up(self.something);
-        } else {
-            self.nothing = plain::up(self.nothing);
-        }
-        self
-    }
-}
-
-impl Scans {
-    fn look(mut self, after: Task, number: usize) -> Scans {
-        if number == 11 {
-            self.frees = plain::up(self.frees);
-        } else if after.doing == plain::SWAP {
-            self.meets = plain::up(self.meets);
-        } else {
-            self.passes = plain::up(self.passes);
-        }
-        self
-    }
-
-    fn swap(mut self, number: usize) -> Scans {
-        if number == 10 {
-            self.leaves = plain::up(self.leaves);
-        } else {
-            self.displaces = plain::up(self.displaces);
-        }
-        self
-    }
-
-    fn see(self, before: Task, after: Task, number: usize) -> Scans {
-        if before.doing == plain::LOOK {
-            self.look(after, number)
-        } else {
-            self.swap(number)
-        }
+fn kind(said: Said) -> usize {
+    let number = said.number;
+    match number {
+        3 => said.a,
+        4 => PROTECTS,
+        5 => NOTHING,
+        9 => DRAINED,
+        10 => LEAVES,
+        11 => FREES,
+        _ => 0,
     }
 }
 
 impl Kinds {
-    fn second_read(mut self, number: usize) -> Kinds {
-        match number {
-            4 => {
-                self.protects = plain::up(self.protects);
-            }
-            5 => {
-                self.nothing = plain::up(self.nothing);
-            }
-            _ => {
-                self.again = plain::up(self.again);
-            }
-        }
-        self
-    }
-
-    fn drain(mut self, before: Task, after: Task) -> Kinds {
-        let drains = self.drains;
-        let sweeps = self.sweeps;
-        if before.back {
-            self.sweeps = sweeps.see(after);
-        } else {
-            self.drains = drains.see(after);
-        }
-        self
-    }
-
-    fn scan(mut self, before: Task, after: Task, number: usize) -> Kinds {
+    // A go on that was accepted, and whether the thread was to return to Published.
+    pub fn see(mut self, back: bool, said: Said) -> Kinds {
         let idle = self.to_idle;
         let published = self.to_published;
-        if before.back {
-            self.to_published = published.see(before, after, number);
+        if back {
+            self.to_published = published.see(kind(said));
         } else {
-            self.to_idle = idle.see(before, after, number);
+            self.to_idle = idle.see(kind(said));
         }
         self
-    }
-
-    // A go on that was accepted.
-    pub fn see(mut self, before: Task, after: Task, number: usize) -> Kinds {
-        let doing = before.doing;
-        match doing {
-            1 => {
-                self.published = plain::up(self.published);
-                self
-            }
-            2 => self.second_read(number),
-            3 => self.drain(before, after),
-            _ => self.scan(before, after, number),
-        }
     }
 }

@@ -5,6 +5,7 @@ mod draw;
 mod kinds;
 mod run;
 mod show;
+mod tally;
 mod totals;
 mod traps;
 

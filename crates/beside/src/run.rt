@@ -57,21 +57,28 @@ struct Heard {
     agrees: bool,
 }
 
-fn counted_step(totals: Totals, heard: Heard, w: Twin) -> Totals {
+fn counted_step(totals: Totals, heard: Heard) -> Totals {
     let o = heard.order;
-    let ours = heard.ours;
-    if o.operation == 7 && ours.number < 19 {
-        return totals.go_on(heard.before, w.task_of(o.thread), ours.number);
+    let before = heard.before;
+    let theirs = heard.theirs;
+    if o.operation == 7 && theirs.number < 19 {
+        return totals.go_on(before.back, theirs);
     }
     totals
 }
 
+// The machines answer the same, and a 3 says what was done.
+fn answered(heard: Heard, w: Twin) -> bool {
+    let o = heard.order;
+    let theirs = heard.theirs;
+    let after = w.task_of(o.thread);
+    theirs.same(heard.ours) && compare::fits(theirs, heard.before, after, o.thread, w.slots)
+}
+
 // Every comparison after a call.
 fn compared(before: Totals, heard: Heard, s: State, w: Twin, store: Store) -> Totals {
-    let theirs = heard.theirs;
-    let ours = heard.ours;
-    let steps = counted_step(before, heard, w);
-    let seen = steps.see(theirs.number).call(theirs.same(ours));
+    let steps = counted_step(before, heard);
+    let seen = steps.answer(heard.theirs).call(answered(heard, w));
     let raw = compare::raw(s);
     let states = seen.state(raw.same(w.raw()));
     let listed = states.listing(heard.listed, heard.agrees);

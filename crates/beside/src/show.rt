@@ -1,9 +1,9 @@
 // What is printed.
 use crate::draw;
 use crate::draw::Plan;
-use crate::kinds::Drains;
+use crate::kinds;
 use crate::kinds::Kinds;
-use crate::kinds::Scans;
+use crate::tally::Tally;
 use crate::totals::Totals;
 use plain::Order;
 
@@ -17,45 +17,47 @@ fn line(s: &[u8], n: usize) {
     compare::text(b"\n");
 }
 
-fn seen(t: Totals, low: usize, high: usize) {
-    for k in 0..64 {
+fn seen(t: Tally, low: usize, high: usize) {
+    for k in 0..32 {
         if low <= k {
             if k <= high {
                 compare::text(b" ");
                 compare::number(k);
                 compare::text(b":");
-                compare::number(plain::wide32(t.seen[k]));
+                compare::number(t.at(k));
             }
         }
     }
     compare::text(b"\n");
 }
 
-fn drains(name: &[u8], d: Drains) {
+fn drains(name: &[u8], t: Tally, nothing: usize) {
     compare::text(name);
-    item(b" finds nothing ", d.nothing);
-    line(b", something ", d.something);
+    item(b" finds nothing ", t.at(nothing));
+    line(b", something ", t.at(kinds::FINDS));
 }
 
-fn scans(name: &[u8], s: Scans) {
+fn scans(name: &[u8], t: Tally) {
     compare::text(name);
-    item(b" look passes ", s.passes);
-    item(b", meets ", s.meets);
-    item(b", frees ", s.frees);
-    item(b"; swap leaves ", s.leaves);
-    line(b", displaces ", s.displaces);
+    item(b" look passes ", t.at(kinds::PASSES));
+    item(b", meets ", t.at(kinds::MEETS));
+    item(b", frees ", t.at(kinds::FREES));
+    item(b"; swap leaves ", t.at(kinds::LEAVES));
+    line(b", displaces ", t.at(kinds::DISPLACES));
 }
 
-fn kinds(k: Kinds) {
+fn steps(k: Kinds) {
+    let idle = k.to_idle;
+    let published = k.to_published;
     compare::text(b"steps seen\n");
-    line(b"  publication ", k.published);
-    item(b"  second read: protects ", k.protects);
-    item(b", finds nothing ", k.nothing);
-    line(b", loads again ", k.again);
-    drains(b"  drain:", k.drains);
-    drains(b"  sweep:", k.sweeps);
-    scans(b"  scan that returns to idle:", k.to_idle);
-    scans(b"  scan that returns to Published:", k.to_published);
+    line(b"  publication ", idle.at(kinds::PUBLISHES));
+    item(b"  second read: protects ", idle.at(kinds::PROTECTS));
+    item(b", finds nothing ", idle.at(kinds::NOTHING));
+    line(b", loads again ", idle.at(kinds::LOADS));
+    drains(b"  drain:", idle, kinds::DRAINED);
+    drains(b"  sweep:", published, kinds::SWEPT);
+    scans(b"  scan that returns to idle:", idle);
+    scans(b"  scan that returns to Published:", published);
 }
 
 pub fn totals(t: Totals) {
@@ -67,10 +69,12 @@ pub fn totals(t: Totals) {
     line(b"store's answers compared ", t.listed);
     line(b"holdings compared ", t.holdings);
     compare::text(b"answers seen");
-    seen(t, 1, 11);
+    seen(t.seen, 1, 11);
+    compare::text(b"work seen");
+    seen(t.work, 1, 7);
     compare::text(b"refusals seen");
-    seen(t, 19, 31);
-    kinds(t.kinds);
+    seen(t.seen, 19, 31);
+    steps(t.kinds);
     line(b"changed states judged by both checks ", t.changed);
     line(b"  sound ", t.sound);
     line(b"  not sound ", t.unsound);

@@ -1,11 +1,14 @@
 // What was compared, and what was seen.
 use crate::kinds;
 use crate::kinds::Kinds;
-use plain::Task;
+use crate::tally;
+use crate::tally::Tally;
+use plain::Said;
 
 pub struct Totals {
-    // How often each answer and refusal was given, by its number.
-    pub seen: [u32; 64],
+    // How often each answer and refusal was given, by its number, and each 3 by what it says was done.
+    pub seen: Tally,
+    pub work: Tally,
     pub kinds: Kinds,
     pub started: usize,
     pub calls: usize,
@@ -21,7 +24,8 @@ pub struct Totals {
 
 pub fn none() -> Totals {
     Totals {
-        seen: [0; 64],
+        seen: tally::none(),
+        work: tally::none(),
         kinds: kinds::none(),
         started: 0,
         calls: 0,
@@ -38,18 +42,22 @@ pub fn none() -> Totals {
 
 impl Totals {
     pub fn see(mut self, number: usize) -> Totals {
-        if number < 64 {
-            let n = self.seen[number];
-            if n < 1000000000 {
-                self.seen[number] = n + 1;
-            }
-        }
+        let seen = self.seen;
+        self.seen = seen.see(number);
         self
     }
 
-    pub fn go_on(mut self, before: Task, after: Task, number: usize) -> Totals {
+    pub fn answer(mut self, said: Said) -> Totals {
+        let work = self.work;
+        if said.number == 3 {
+            self.work = work.see(said.a);
+        }
+        self.see(said.number)
+    }
+
+    pub fn go_on(mut self, back: bool, said: Said) -> Totals {
         let kinds = self.kinds;
-        self.kinds = kinds.see(before, after, number);
+        self.kinds = kinds.see(back, said);
         self
     }
 

@@ -240,7 +240,7 @@ fn shown(s: State, z: Setting, bad: bool) -> bool {
     let mut good = true;
     for op in 1..8 {
         let b = compare::called(s, stage::call(z, op));
-        good = good & b.agree() & (b.sound != bad) & ((b.number == 19) == bad);
+        good = good & b.agree() & (b.sound != bad) & ((b.said.number == 19) == bad);
     }
     good
 }

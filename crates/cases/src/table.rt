@@ -88,7 +88,7 @@ pub fn applies(line: usize, f: Facts, o: Order) -> bool {
 pub fn gives(due: usize, s: State, o: Order) -> bool {
     let b = compare::called(s, o);
     if due == 0 {
-        return b.agree() & (b.number < 19);
+        return b.agree() & (b.said.number < 19);
     }
-    b.agree() & (b.number == due) & applies(due, looked_at(s, o), o)
+    b.agree() & (b.said.number == due) & applies(due, looked_at(s, o), o)
 }

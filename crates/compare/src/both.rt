@@ -1,13 +1,16 @@
 // One call on one state, sound or not, by both machines.
 use crate::five;
 use crate::numbers;
+use crate::work;
 use machine::State;
 use plain::Order;
+use plain::Said;
 
-// What the state is, the number that the first machine answered, and whether checks, answers, next states and counts agree.
+// What the state is, what the first machine answered, and whether checks, answers, next states and counts agree. Answers agree if
+// they are the same, and a 3 says what was done.
 pub struct Both {
     pub sound: bool,
-    pub number: usize,
+    pub said: Said,
     pub checks: bool,
     pub answers: bool,
     pub states: bool,
@@ -34,18 +37,20 @@ pub fn called(s: State, order: Order) -> Both {
         let w = twin::of(raw);
         let ours = w.step(order);
         let after = ours.twin;
+        let t = order.thread;
+        let fits = work::fits(said, w.task_of(t), after.task_of(t), t, raw.slots);
         return Both {
             sound: true,
-            number: said.number,
+            said,
             checks,
-            answers: said.same(ours.said),
+            answers: said.same(ours.said) & fits,
             states: next.same(after.raw()),
             counts: five.same(five::twin_count(w)),
         };
     }
     Both {
         sound: false,
-        number: said.number,
+        said,
         checks,
         answers: (said.number == 19) & (said.a == 0) & (said.b == 0),
         states: next.same(raw),

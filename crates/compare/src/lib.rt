@@ -3,6 +3,7 @@ mod both;
 mod five;
 mod numbers;
 mod print;
+mod work;
 
 pub use both::Both;
 pub use both::called;
@@ -16,3 +17,4 @@ pub use numbers::said;
 pub use numbers::verdict;
 pub use print::number;
 pub use print::text;
+pub use work::fits;

@@ -1,9 +1,10 @@
-// The first machine's types as plain numbers, by 01's numbering.
+// The first machine's types as plain numbers, by 01's numbering and request 7's.
 use entries::Phase;
 use machine::Answer;
 use machine::Call;
 use machine::State;
 use machine::Verdict;
+use machine::Work;
 use plain::Order;
 use plain::Raw;
 use plain::Said;
@@ -24,12 +25,25 @@ fn say(number: usize, a: usize, b: usize) -> Said {
     Said { number, a, b }
 }
 
+// 3, what was done by request 7's number, and "the position concerned".
+fn worked(work: Work) -> Said {
+    match work {
+        Work::Publication(position) => say(3, 1, plain::wide(position)),
+        Work::FailedRead(position) => say(3, 2, plain::wide(position)),
+        Work::NoMatch(position) => say(3, 3, plain::wide(position)),
+        Work::Match(position) => say(3, 4, plain::wide(position)),
+        Work::Displacement(position) => say(3, 5, plain::wide(position)),
+        Work::Found(position) => say(3, 6, plain::wide(position)),
+        Work::FoundNothing(position) => say(3, 7, plain::wide(position)),
+    }
+}
+
 pub fn said(answer: Answer) -> Said {
     match answer {
         Answer::Refused(n) => say(plain::wide(n), 0, 0),
         Answer::Taken(object) => say(1, plain::wide(object), 0),
         Answer::Begun(object) => say(2, plain::wide(object), 0),
-        Answer::Working => say(3, 0, 0),
+        Answer::Working(work) => worked(work),
         Answer::Protected(object, tag) => say(4, plain::wide(object), plain::wide32(tag)),
         Answer::Nothing => say(5, 0, 0),
         Answer::Swapped(object) => say(6, plain::wide(object), 0),

@@ -8,13 +8,14 @@ use lib.Dec.{eqb}
 use Rattle.machine.specs.declared.State.{State}
 use Rattle.machine.specs.declared.Call.{Call}
 use Rattle.machine.specs.declared.Outcome.{Outcome}
-use Rattle.machine.specs.declared.Answer.the-variants.{Working, Freed}
+use Rattle.machine.specs.declared.Answer.the-variants.{Freed}
 use Rattle.entries.specs.declared.Phase.the-variants.{Loaded, Published}
 use Rattle.basics.specs.Counts.{howMany}
 use Rattle.entries.specs.Sizes.{positions}
 use Rattle.entries.specs.Phases.{carriedBy, scansAt}
 use Rattle.entries.specs.PhaseFacts.{AtLook}
 use Rattle.machine.specs.Parts.{slotAt, phaseOf, positionOf}
+use Rattle.machine.specs.Answers.{numbers, numbersOf}
 use Rattle.machine.specs.Step.{stepOf}
 use Rattle.promise.specs.History.{Event, eventOf, history, stateAfter}
 use Rattle.promise.specs.Asked.{isAccepted}
@@ -33,14 +34,16 @@ pub record Publishes (s : State) (c : Call) (slot link : ℕ) : Type 0 where
   pub object : ℕ
   pub loaded : phaseOf s (c .thread) ≡ Loaded slot link object
 
--- A call that sweeps its thread's slot, and its outcome. The handover is empty. Where there was nothing, the second read is next. What stood
--- there is carried by that thread and scanned from that position, with the way back to the protect.
+-- A call that sweeps its thread's slot, and its outcome. The handover is empty. Where there was nothing, the answer says so (3 with 7) and the second
+-- read is next. Where there was something, the answer says so (3 with 6), and what stood there is carried by that thread and scanned from that
+-- position, with the way back to the protect.
 pub record Sweeps (s : State) (c : Call) (slot link : ℕ) (o : Outcome) : Type 0 where
-  pub working : o .answer ≡ Working
   pub emptied : (slotAt (o .state) (positionOf s (c .thread) slot)) .handover ≡ 0
-  pub found-nothing : (slotAt s (positionOf s (c .thread) slot)) .handover ≡ 0 → phaseOf (o .state) (c .thread) ≡ Published slot link
+  pub found-nothing : (slotAt s (positionOf s (c .thread) slot)) .handover ≡ 0
+      → (numbersOf (o .answer) ≡ numbers 3 7 (positionOf s (c .thread) slot)) × (phaseOf (o .state) (c .thread) ≡ Published slot link)
   pub found : (x : ℕ) → (slotAt s (positionOf s (c .thread) slot)) .handover ≡ x → 0 < x
-      → AtLook (s .sizes) (phaseOf (o .state) (c .thread)) (Published slot link) x (positionOf s (c .thread) slot)
+      → (numbersOf (o .answer) ≡ numbers 3 6 (positionOf s (c .thread) slot))
+      × AtLook (s .sizes) (phaseOf (o .state) (c .thread)) (Published slot link) x (positionOf s (c .thread) slot)
 
 -- What becomes, in any further calls, of an object that thread t carries at position p: it is freed by that thread, or left by it in a handover
 -- from p on, in a step before which it carried it still, unless the thread has taken fewer than `most` steps of its own since. Until then it

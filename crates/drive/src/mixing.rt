@@ -1,6 +1,7 @@
 // A checksum: each number is mixed into the sum so far, and an answer's three numbers one after the other.
 use machine::Answer;
 use machine::Places;
+use machine::Work;
 ghost use mathlib.Core.Path.{_≡_};
 ghost use Prim.Native.Nat.{_+_, _*_, _%_};
 
@@ -17,13 +18,26 @@ fn mixed_three(sum: u64, number: u8, a: u32, b: u32) -> u64 {
     mixed(second, b)
 }
 
+// What a step that is answered 3 did, and where.
+fn mixed_work(sum: u64, work: Work) -> u64 {
+    match work {
+        Work::Publication(position) => mixed_three(sum, 3, 1, position as u32),
+        Work::FailedRead(position) => mixed_three(sum, 3, 2, position as u32),
+        Work::NoMatch(position) => mixed_three(sum, 3, 3, position as u32),
+        Work::Match(position) => mixed_three(sum, 3, 4, position as u32),
+        Work::Displacement(position) => mixed_three(sum, 3, 5, position as u32),
+        Work::Found(position) => mixed_three(sum, 3, 6, position as u32),
+        Work::FoundNothing(position) => mixed_three(sum, 3, 7, position as u32),
+    }
+}
+
 // The answer's number and its two values.
 pub fn mixed_answer(sum: u64, answer: Answer) -> u64 {
     match answer {
         Answer::Refused(number) => mixed_three(sum, number, 0, 0),
         Answer::Taken(object) => mixed_three(sum, 1, object as u32, 0),
         Answer::Begun(object) => mixed_three(sum, 2, object as u32, 0),
-        Answer::Working => mixed_three(sum, 3, 0, 0),
+        Answer::Working(work) => mixed_work(sum, work),
         Answer::Protected(object, tag) => mixed_three(sum, 4, object as u32, tag),
         Answer::Nothing => mixed_three(sum, 5, 0, 0),
         Answer::Swapped(object) => mixed_three(sum, 6, object as u32, 0),

@@ -1,6 +1,8 @@
--- Document 01, "Edges to prove", as one table. What is expected was worked out from document 01's text and request 2's; each row says how. By
--- request 2 the go on that publishes is followed by one that takes what is in the slot's handover along. In these runs it finds nothing and
--- answers 3, so that a protect has 3 twice: "the run in document 01 gets one go on more after steps 4 and 7, and edge 9 a second 3".
+-- Document 01, "Edges to prove", as one table. What is expected was worked out from the texts of document 01 and of requests 2 and 7; each row
+-- says how. By request 2 the go on that publishes is followed by one that takes what is in the slot's handover along. In these runs it finds
+-- nothing and answers 3, so that a protect has 3 twice: "the run in document 01 gets one go on more after steps 4 and 7, and edge 9 a second 3".
+-- By request 7 a 3 says what was done and at which position p: 3 1 p and 3 7 p in a protect, 3 3 p and 3 4 p in looks without and with a match,
+-- 3 6 p in a drain that found something.
 use Prim.Native.Nat.{ℕ}
 use mathlib.Core.Path.{_≡_, refl, subst⁻¹}
 use mathlib.Core.List.{List, [], _∷_, _++_, map}
@@ -41,7 +43,8 @@ nineOfStep = 84 ∷ 75 ∷ 0 ∷ 1 ∷ 0 ∷ 0 ∷ 245 ∷ 1 ∷ 0 ∷ []
 -- the table, over what takes a step and what counts the places
 unfoldable pub edgesOf : Machine → (State → Counted) → List Edge
 edgesOf machine count =
-    -- "(1) the run above", line by line. Request 2's go ons are steps 5 and 9.
+    -- "(1) the run above", line by line. Request 2's go ons are steps 5 and 9. Thread 1's slot is at position 1, thread 0's at position 0: 15 looks
+    -- at 0 and 16 at 1, where the hazard is the object; 20 drains position 1, and 21 looks there, where the hazard is 0 by then.
     edge 1
     (printed machine count (sizes 2 1 1 2)
     (call 0 1 0 0 501 ∷
@@ -72,24 +75,24 @@ edgesOf machine count =
     six 1 0 1 1 1 0 ∷
     six 2 0 3 6 0 0 ∷
     six 3 1 2 2 1 0 ∷
-    six 4 1 7 3 0 0 ∷
-    six 5 1 7 3 0 0 ∷
+    six 4 1 7 3 1 1 ∷
+    six 5 1 7 3 7 1 ∷
     six 6 1 7 4 1 501 ∷
     six 7 0 2 2 1 0 ∷
-    six 8 0 7 3 0 0 ∷
-    six 9 0 7 3 0 0 ∷
+    six 8 0 7 3 1 0 ∷
+    six 9 0 7 3 7 0 ∷
     six 10 0 7 4 1 501 ∷
     six 11 0 3 6 1 0 ∷
     six 12 0 6 2 0 0 ∷
     six 13 0 7 9 0 0 ∷
     six 14 0 5 2 1 0 ∷
-    six 15 0 7 3 0 0 ∷
-    six 16 0 7 3 0 0 ∷
+    six 15 0 7 3 3 0 ∷
+    six 16 0 7 3 4 1 ∷
     six 17 0 7 10 1 1 ∷
     six 18 1 4 8 501 0 ∷
     six 19 1 6 2 0 0 ∷
-    six 20 1 7 3 0 0 ∷
-    six 21 1 7 3 0 0 ∷
+    six 20 1 7 3 6 1 ∷
+    six 21 1 7 3 3 1 ∷
     six 22 1 7 11 1 0 ∷
     six 23 0 1 1 1 0 ∷
     six 23 1 0 1 0 0 ∷
@@ -116,8 +119,8 @@ edgesOf machine count =
     six 3 0 1 26 0 0 ∷
     six 3 0 0 0 0 1 ∷
     []) ∷
-    -- "(5) the same with the scan run to Freed first: the second take gives object 1": T × H is 1, so one look finds no hazard at position 0
-    -- and the next, at position 1, frees
+    -- "(5) the same with the scan run to Freed first: the second take gives object 1": T × H is 1, so one look finds no hazard at position 0,
+    -- 3 3 0, and the next, at position 1, frees
     edge 5
     (printed machine count (sizes 1 1 1 1)
     (call 0 1 0 0 7 ∷
@@ -129,7 +132,7 @@ edgesOf machine count =
     (four 1 1 1 1 ∷
     six 1 0 1 1 1 0 ∷
     six 2 0 5 2 1 0 ∷
-    six 3 0 7 3 0 0 ∷
+    six 3 0 7 3 3 0 ∷
     six 4 0 7 11 1 0 ∷
     six 5 0 1 1 1 0 ∷
     six 5 0 0 1 0 0 ∷
@@ -163,8 +166,8 @@ edgesOf machine count =
     six 1 0 3 6 0 0 ∷
     six 1 1 0 0 0 0 ∷
     []) ∷
-    -- "(9) protect of an empty link: 2, 3, 5", with "a second 3" by request 2: Loaded with 0; the hazard 0 is published; the handover has
-    -- nothing; the link still holds 0
+    -- "(9) protect of an empty link: 2, 3, 5", with "a second 3" by request 2: Loaded with 0; the hazard 0 is published, 3 1 0; the
+    -- handover has nothing, 3 7 0; the link still holds 0
     edge 9
     (printed machine count (sizes 1 1 1 1)
     (call 0 2 0 0 0 ∷
@@ -174,8 +177,8 @@ edgesOf machine count =
     []))
     (four 1 1 1 1 ∷
     six 1 0 2 2 0 0 ∷
-    six 2 0 7 3 0 0 ∷
-    six 3 0 7 3 0 0 ∷
+    six 2 0 7 3 1 0 ∷
+    six 3 0 7 3 7 0 ∷
     six 4 0 7 5 0 0 ∷
     six 4 1 0 0 0 0 ∷
     []) ∷
@@ -209,21 +212,21 @@ edgesOf machine count =
     six 1 0 1 1 1 0 ∷
     six 2 0 3 6 0 0 ∷
     six 3 0 2 2 1 0 ∷
-    six 4 0 7 3 0 0 ∷
-    six 5 0 7 3 0 0 ∷
+    six 4 0 7 3 1 0 ∷
+    six 5 0 7 3 7 0 ∷
     six 6 0 7 4 1 9 ∷
     six 7 0 2 2 1 0 ∷
-    six 8 0 7 3 0 0 ∷
-    six 9 0 7 3 0 0 ∷
+    six 8 0 7 3 1 1 ∷
+    six 9 0 7 3 7 1 ∷
     six 10 0 7 4 1 9 ∷
     six 11 0 3 6 1 0 ∷
     six 12 0 5 2 1 0 ∷
-    six 13 0 7 3 0 0 ∷
+    six 13 0 7 3 4 0 ∷
     six 14 0 7 10 1 0 ∷
     six 15 0 6 2 0 0 ∷
-    six 16 0 7 3 0 0 ∷
-    six 17 0 7 3 0 0 ∷
-    six 18 0 7 3 0 0 ∷
+    six 16 0 7 3 6 0 ∷
+    six 17 0 7 3 3 0 ∷
+    six 18 0 7 3 4 1 ∷
     six 19 0 7 10 1 1 ∷
     six 19 0 0 0 1 0 ∷
     []) ∷
@@ -256,8 +259,8 @@ edgesOf machine count =
     six 1 0 1 1 1 0 ∷
     six 2 0 3 6 0 0 ∷
     six 3 0 2 2 1 0 ∷
-    six 4 0 7 3 0 0 ∷
-    six 5 0 7 3 0 0 ∷
+    six 4 0 7 3 1 0 ∷
+    six 5 0 7 3 7 0 ∷
     six 6 0 7 4 1 4294967295 ∷
     six 7 0 4 8 4294967295 0 ∷
     six 7 0 1 0 0 0 ∷
@@ -280,7 +283,7 @@ pub twelve-edges : map (λ row. row .number) edges ≡ 1 ∷ 2 ∷ 3 ∷ 4 ∷ 5
 unfolding edges edgesOf
 twelve-edges = refl
 
--- Every edge is as document 01 says, with request 2's steps.
+-- Every edge is as document 01 says, with request 2's steps and request 7's numbers.
 pub edges-hold : map (λ row. row .computed) edges ≡ map (λ row. row .expected) edges
 unfolding edges
 edges-hold =

@@ -1,4 +1,4 @@
--- The machine with one rule changed: for some calls it does something else, and for all others what document 01 and request 2 say.
+-- The machine with one rule changed: for some calls it does something else, and for all others what document 01 and requests 2 and 7 say.
 use Prim.Native.Nat.{ℕ}
 use mathlib.Core.Path.{_≡_}
 use mathlib.Core.Bool.{Bool, true, false, cond, _&&_}

@@ -7,6 +7,7 @@ use Rattle.machine.specs.declared.Call.{Call}
 use Rattle.entries.specs.declared.Phase.the-variants.{Idle, Draining, Look}
 use Rattle.machine.specs.declared.Outcome.{Outcome}
 use Rattle.machine.specs.declared.Answer.the-variants.{Refused, Begun, Working, Protected, Nothing, Finished, Left, Freed}
+use Rattle.machine.specs.declared.Work.the-variants.{NoMatch, Match, Displacement}
 use Rattle.entries.specs.Sizes.{positions}
 use Rattle.machine.specs.Parts.{slotAt, handOf, phaseOf, positionOf, freeAt, tagOf, withThread, withSlot, withPool, become}
 use Rattle.basics.specs.Under.{allUnder}
@@ -25,7 +26,7 @@ handOverAndMoveOn s t object p =
     let left = withSlot s p (withHandover (slotAt s p) object) in
     cond (eqb old 0)
     (outcome (become left t back) (Left object p))
-    (outcome (become left t (looking back old (suc p))) Working)
+    (outcome (become left t (looking back old (suc p))) (Working (Displacement p)))
 
 abbrev pub movesOn : Change
 movesOn = atSwap handOverAndMoveOn
@@ -68,15 +69,15 @@ drainsFirst =
           (whenDraining (zeroAfterDrain s (c .thread)) (doneOf s c) (phaseOf s (c .thread)));
     }
 
--- a look where a test says whether the hazard there counts, and another whether the scan ends in this step
+-- a look where a test says whether the hazard there counts as a match, and is told as one, and another whether the scan ends in this step
 unfoldable pub lookBy : (State → ℕ → ℕ → ℕ → Bool) → (State → ℕ → ℕ → ℕ → Bool) → State → ℕ → ℕ → ℕ → Outcome
 lookBy matches ends s t object p =
     let back = returnsTo (phaseOf s t) in
     cond (ends s t object p)
     (outcome (become (withPool s (putBack (s .pool) object) object 0) t back) (Freed object))
     (cond (matches s t object p)
-    (outcome (become s t (swapping back object p)) Working)
-    (outcome (become s t (looking back object (suc p))) Working))
+    (outcome (become s t (swapping back object p)) (Working (Match p)))
+    (outcome (become s t (looking back object (suc p))) (Working (NoMatch p))))
 
 -- the hazard at the position is the object
 abbrev pub met : State → ℕ → ℕ → ℕ → Bool

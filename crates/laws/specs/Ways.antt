@@ -7,6 +7,7 @@ use Rattle.machine.specs.declared.State.{State}
 use Rattle.machine.specs.declared.Call.{Call}
 use Rattle.machine.specs.declared.Outcome.{Outcome}
 use Rattle.machine.specs.declared.Answer.the-variants.{Refused, Taken, Begun, Working, Protected, Nothing, Swapped, Moved, Tag, Finished, Left, Freed}
+use Rattle.machine.specs.declared.Work.the-variants.{Publication, FailedRead, NoMatch, Match, Displacement, Found, FoundNothing}
 use Rattle.entries.specs.declared.Phase.{Phase}
 use Rattle.entries.specs.declared.Phase.the-variants.{Idle, Loaded, Sweeping, Published, Draining, Look}
 use Rattle.basics.specs.Rows.{FirstIs}
@@ -100,7 +101,7 @@ pub data Way (s : State) (c : Call) : Outcome → Type 0 where
       → Way s c
       (outcome
       (become (withSlot s (own s c slot) (withHazard (slotAt s (own s c slot)) o false)) (c .thread) (Sweeping slot link))
-      Working)
+      (Working (Publication (own s c slot))))
   -- go on from Published: the link still holds the hazard, and the mark goes on
   protects : {slot link o : ℕ} → Does s c 7 → phase s c ≡ Published slot link → slot < s .sizes .slots → link < s .sizes .links
       → linkAt s link ≡ o → o ≡ (slotAt s (own s c slot)) .hazard → 0 < o
@@ -115,26 +116,26 @@ pub data Way (s : State) (c : Call) : Outcome → Type 0 where
   -- .. the link holds something else, which is loaded
   loads-again : {slot link o : ℕ} → Does s c 7 → phase s c ≡ Published slot link → slot < s .sizes .slots → link < s .sizes .links
       → linkAt s link ≡ o → (o ≡ (slotAt s (own s c slot)) .hazard → ⊥)
-      → Way s c (outcome (become s (c .thread) (Loaded slot link o)) Working)
+      → Way s c (outcome (become s (c .thread) (Loaded slot link o)) (Working (FailedRead (own s c slot))))
   -- a drain that finds nothing
   finishes : (p : ℕ) → Does s c 7 → Drains s c Idle p → p < positions (s .sizes) → (slotAt s p) .handover ≡ 0
       → Way s c (outcome (become (withSlot s p (withHandover (slotAt s p) 0)) (c .thread) Idle) Finished)
   -- a sweep that finds nothing: the second read is next
   sweeps : (p : ℕ) {slot link : ℕ} → Does s c 7 → Drains s c (Published slot link) p → p < positions (s .sizes)
       → (slotAt s p) .handover ≡ 0 → slot < s .sizes .slots → link < s .sizes .links
-      → Way s c (outcome (become (withSlot s p (withHandover (slotAt s p) 0)) (c .thread) (Published slot link)) Working)
+      → Way s c (outcome (become (withSlot s p (withHandover (slotAt s p) 0)) (c .thread) (Published slot link)) (Working (FoundNothing p)))
   -- a drain or a sweep that finds an object, which is scanned from there on
   drains : (p : ℕ) {back : Phase} {o : ℕ} (next : Phase) → Does s c 7 → Drains s c back p → p < positions (s .sizes)
       → (slotAt s p) .handover ≡ o → AtLook (s .sizes) next back o p
-      → Way s c (outcome (become (withSlot s p (withHandover (slotAt s p) 0)) (c .thread) next) Working)
+      → Way s c (outcome (become (withSlot s p (withHandover (slotAt s p) 0)) (c .thread) next) (Working (Found p)))
   -- a look that meets the object: a swap at that position is next
   meets : {back : Phase} {o q : ℕ} (next : Phase) → Does s c 7 → AtLook (s .sizes) (phase s c) back o q → q < positions (s .sizes)
       → (slotAt s q) .hazard ≡ o → AtSwap (s .sizes) next back o q
-      → Way s c (outcome (become s (c .thread) next) Working)
+      → Way s c (outcome (become s (c .thread) next) (Working (Match q)))
   -- a look that does not: a look one position on is next
   passes : {back : Phase} {o q : ℕ} (next : Phase) → Does s c 7 → AtLook (s .sizes) (phase s c) back o q → q < positions (s .sizes)
       → ((slotAt s q) .hazard ≡ o → ⊥) → AtLook (s .sizes) next back o (suc q)
-      → Way s c (outcome (become s (c .thread) next) Working)
+      → Way s c (outcome (become s (c .thread) next) (Working (NoMatch q)))
   -- a look past the last position: the object is free, and the scan ends
   frees : {o q : ℕ} (next : Phase) → Does s c 7 → AtLook (s .sizes) (phase s c) next o q → positions (s .sizes) ≤ q
       → carriedBy next ≡ 0 → phaseInRange (s .sizes) next ≡ true
@@ -146,4 +147,4 @@ pub data Way (s : State) (c : Call) : Outcome → Type 0 where
   -- a swap that displaces what stood there, which is looked for from the same position on
   displaces : {back : Phase} {o q old : ℕ} (next : Phase) → Does s c 7 → AtSwap (s .sizes) (phase s c) back o q → q < positions (s .sizes)
       → (slotAt s q) .handover ≡ old → AtLook (s .sizes) next back old q
-      → Way s c (outcome (become (withSlot s q (withHandover (slotAt s q) o)) (c .thread) next) Working)
+      → Way s c (outcome (become (withSlot s q (withHandover (slotAt s q) o)) (c .thread) next) (Working (Displacement q)))

@@ -3,11 +3,13 @@ use entries::Sizes;
 use machine::Answer;
 use machine::Call;
 use machine::Places;
+use machine::Work;
 use text::bytes::put_bytes;
 use text::line::put_line;
 ghost use mathlib.Core.Path.{_≡_};
 ghost use Prim.Native.Nat.{_+_, _≤_};
 ghost use lib.ListN.{length};
+ghost use Rattle.machine.specs.declared.Answer.the-variants.{Working};
 ghost use Rattle.machine.specs.Answers.{numbers, numbersOf};
 ghost use Rattle.lines.specs.Line.{bytesOf, lineRoom};
 ghost use Rattle.lines.specs.Run.{sizesLine, stepLine, endLine, stopLine};
@@ -18,6 +20,31 @@ pub(crate) struct Numbers {
     pub number: u8,
     pub a: u32,
     pub b: u32,
+}
+
+fn three(a: u32, position: u8) -> Numbers
+    ensures { λ r. ⌜ numbers 3 a position ≡ numbers (r .number) (r .a) (r .b) ⌝ }
+{
+    Numbers {
+        number: 3,
+        a,
+        b: position as u32,
+    }
+}
+
+// What a step that is answered 3 did, and the position concerned.
+fn worked(work: Work) -> Numbers
+    ensures { λ r. ⌜ numbersOf (Working work) ≡ numbers (r .number) (r .a) (r .b) ⌝ }
+{
+    match work {
+        Work::Publication(position) => three(1, position),
+        Work::FailedRead(position) => three(2, position),
+        Work::NoMatch(position) => three(3, position),
+        Work::Match(position) => three(4, position),
+        Work::Displacement(position) => three(5, position),
+        Work::Found(position) => three(6, position),
+        Work::FoundNothing(position) => three(7, position),
+    }
 }
 
 pub(crate) fn told_as(answer: Answer) -> Numbers
@@ -35,11 +62,7 @@ pub(crate) fn told_as(answer: Answer) -> Numbers
             a: object as u32,
             b: 0,
         },
-        Answer::Working => Numbers {
-            number: 3,
-            a: 0,
-            b: 0,
-        },
+        Answer::Working(work) => worked(work),
         Answer::Protected(object, tag) => Numbers {
             number: 4,
             a: object as u32,

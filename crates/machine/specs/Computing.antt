@@ -10,8 +10,8 @@ use Rattle.pool.specs.Pool.{isFree, firstOn, nextOf, marked, freshPool, takenOu
 use Rattle.machine.specs.Soundness.{shaped, placesHolding, sound}
 use Rattle.machine.specs.Fresh.{freshOf, blank, startOf}
 use Rattle.machine.specs.Calls.{takeOf, protectOf, expected, swapOf, readOf, retireOf, clearOf}
-use Rattle.machine.specs.GoOn.{publishOf, confirmOf, emptyOf, sweepOf, drainOf, lookOf, handOverOf, goOnFrom, goOnOf}
-use Rattle.machine.specs.Answers.{numbersOf, verdictNumber}
+use Rattle.machine.specs.GoOn.{publishOf, confirmOf, nothingFound, emptyOf, sweepOf, drainOf, lookOf, handOverOf, goOnFrom, goOnOf}
+use Rattle.machine.specs.Answers.{workOf, numbersOf, verdictNumber}
 use Rattle.machine.specs.Refusals.{usesSlot, usesLink, usesTag, unusedNotZero, withoutSlot, readsSlot, stateRows, fieldRows, threadRows, objectRows, callRows, refusals, refusalOf}
 use Rattle.machine.specs.Step.{doneOf, stepOf}
 use Rattle.machine.specs.Count.{fivePlaces, countOf}
@@ -27,7 +27,7 @@ states-compute = tt
 
 -- a step and its answer
 unfoldable pub steps-compute : Unit {0}
-unfolding takeOf protectOf expected swapOf readOf retireOf clearOf publishOf confirmOf emptyOf sweepOf drainOf lookOf handOverOf goOnFrom goOnOf doneOf stepOf numbersOf
+unfolding takeOf protectOf expected swapOf readOf retireOf clearOf publishOf confirmOf nothingFound emptyOf sweepOf drainOf lookOf handOverOf goOnFrom goOnOf doneOf stepOf workOf numbersOf
 steps-compute = tt
 
 unfoldable pub refusals-compute : Unit {0}

@@ -2,10 +2,12 @@
 use crate::Answer;
 use crate::Outcome;
 use crate::State;
+use crate::Work;
 use crate::parts::position;
 use entries::Phase;
 use entries::Slot;
 use entries::Thread;
+use entries::is_idle;
 use entries::looking;
 use entries::returns_to;
 use entries::swapping;
@@ -19,65 +21,65 @@ ghost use Rattle.machine.specs.GoOn.{publishOf, confirmOf, emptyOf, look
 
 impl State {
     // "Loaded: store the object in the hazard, mark off." The handover is next.
-    fn publish(self, thread: u8, slot: u8, link: u8, object: u8) -> Outcome
+    fn publish(mut self, thread: u8, slot: u8, link: u8, object: u8) -> Outcome
         requires { ⌜ (thread < 8) × (positionOf self thread slot < 32) ⌝ }
         ensures { λ r. ⌜ r ≡ publishOf self thread slot link object ⌝ }
     {
-        let p = position(thread, self.sizes.slots, slot) as usize;
+        let own = position(thread, self.sizes.slots, slot);
+        let p = own as usize;
         let held = self.slots[p];
-        let mut next = self;
-        next.slots[p] = Slot {
+        self.slots[p] = Slot {
             hazard: object,
             mark: false,
             handover: held.handover,
         };
         let t = thread as usize;
         let me = self.threads[t];
-        next.threads[t] = Thread {
+        self.threads[t] = Thread {
             hand: me.hand,
             phase: Phase::Sweeping { slot, link },
         };
         Outcome {
-            state: next,
-            answer: Answer::Working,
+            state: self,
+            answer: Answer::Working(Work::Publication(own)),
         }
     }
 
     // "Published: read the link again. Equal to the hazard and not 0: mark on, idle. Equal and 0: idle. Different: Loaded with the value
     // read."
-    fn confirm(self, thread: u8, slot: u8, link: u8) -> Outcome
+    fn confirm(mut self, thread: u8, slot: u8, link: u8) -> Outcome
         requires { ⌜ (thread < 8) × (link < 16) ⌝ }
         requires { ⌜ (positionOf self thread slot < 32) × (linkAt self link ≤ 240) ⌝ }
         ensures { λ r. ⌜ r ≡ confirmOf self thread slot link ⌝ }
     {
         let l = link as usize;
         let object = self.links[l];
-        let p = position(thread, self.sizes.slots, slot) as usize;
+        let own = position(thread, self.sizes.slots, slot);
+        let p = own as usize;
         let held = self.slots[p];
         let t = thread as usize;
         let me = self.threads[t];
-        let mut next = self;
         if object != held.hazard {
-            next.threads[t] = Thread {
+            self.threads[t] = Thread {
                 hand: me.hand,
                 phase: Phase::Loaded { slot, link, object },
             };
             return Outcome {
-                state: next,
-                answer: Answer::Working,
+                state: self,
+                answer: Answer::Working(Work::FailedRead(own)),
             };
         }
-        next.threads[t] = Thread {
+        self.threads[t] = Thread {
             hand: me.hand,
             phase: Phase::Idle,
         };
         if object == 0 {
             return Outcome {
-                state: next,
+                state: self,
                 answer: Answer::Nothing,
             };
         }
-        next.slots[p] = Slot {
+        self.slots[p] = Slot {
             hazard: held.hazard,
             mark: true,
             handover: held.handover,
@@ -85,23 +87,22 @@ impl State {
         let o = object as usize - 1;
         let tag = self.tags[o];
         Outcome {
-            state: next,
+            state: self,
             answer: Answer::Protected(object, tag),
         }
     }
 
-    // "take the handover and put 0 there": the drain of a clear, and the step after a publication. It was 0: on to `back`, with that
-    // answer. Otherwise a scan of what stood there, from this slot's position, that returns to `back`.
-    fn empty(self, thread: u8, slot: u8, back: Phase, none: Answer) -> Outcome
+    // "take the handover and put 0 there": the drain of a clear, and the step after a publication. It was 0: on to `back`, which says
+    // which of the two it was. Otherwise a scan of what stood there, from this slot's position, that returns to `back`.
+    fn empty(mut self, thread: u8, slot: u8, back: Phase) -> Outcome
         requires { ⌜ (thread < 8) × (positionOf self thread slot < 32) ⌝ }
-        ensures { λ r. ⌜ r ≡ emptyOf self thread slot back none ⌝ }
+        ensures { λ r. ⌜ r ≡ emptyOf self thread slot back ⌝ }
     {
-        let position = position(thread, self.sizes.slots, slot);
-        let p = position as usize;
+        let own = position(thread, self.sizes.slots, slot);
+        let p = own as usize;
         let held = self.slots[p];
         let object = held.handover;
-        let mut next = self;
-        next.slots[p] = Slot {
+        self.slots[p] = Slot {
             hazard: held.hazard,
             mark: held.mark,
             handover: 0,
@@ -109,27 +110,33 @@ impl State {
         let t = thread as usize;
         let me = self.threads[t];
         if object == 0 {
-            next.threads[t] = Thread {
+            self.threads[t] = Thread {
                 hand: me.hand,
                 phase: back,
             };
+            if is_idle(back) {
+                return Outcome {
+                    state: self,
+                    answer: Answer::Finished,
+                };
+            }
             return Outcome {
-                state: next,
-                answer: none,
+                state: self,
+                answer: Answer::Working(Work::FoundNothing(own)),
             };
         }
-        next.threads[t] = Thread {
+        self.threads[t] = Thread {
             hand: me.hand,
-            phase: looking(back, object, position),
+            phase: looking(back, object, own),
         };
         Outcome {
-            state: next,
-            answer: Answer::Working,
+            state: self,
+            answer: Answer::Working(Work::Found(own)),
         }
     }
 
     // "Look, position below T × H: if the hazard there is the object, Swap at that position; otherwise Look one position on."
-    fn look(self, thread: u8, object: u8, position: u8) -> Outcome
+    fn look(mut self, thread: u8, object: u8, position: u8) -> Outcome
         requires { ⌜ (thread < 8) × (positions (self .sizes) ≤ 32) ⌝ }
         requires { ⌜ (0 < object) × (object ≤ 240) ⌝ }
         ensures { λ r. ⌜ r ≡ lookOf self thread object position ⌝ }
@@ -144,24 +151,29 @@ impl State {
         let me = self.threads[t];
         let now = me.phase;
         let back = returns_to(now);
-        let phase = if there.hazard == object {
-            swapping(back, object, position)
-        } else {
-            looking(back, object, position + 1)
-        };
-        let mut next = self;
-        next.threads[t] = Thread {
+        if there.hazard == object {
+            self.threads[t] = Thread {
+                hand: me.hand,
+                phase: swapping(back, object, position),
+            };
+            return Outcome {
+                state: self,
+                answer: Answer::Working(Work::Match(position)),
+            };
+        }
+        let further = position + 1;
+        self.threads[t] = Thread {
             hand: me.hand,
-            phase,
+            phase: looking(back, object, further),
         };
         Outcome {
-            state: next,
-            answer: Answer::Working,
+            state: self,
+            answer: Answer::Working(Work::NoMatch(position)),
         }
     }
 
     // "Look at T × H: object becomes free, tag 0", and the scan ends.
-    fn let_go(self, thread: u8, object: u8) -> Outcome
+    fn let_go(mut self, thread: u8, object: u8) -> Outcome
         requires { ⌜ (thread < 8) × ((0 < object) × (object ≤ 240)) ⌝ }
         ensures { λ r. ⌜ r ≡ lookOf self thread object (positions (self .sizes)) ⌝ }
     {
@@ -170,30 +182,28 @@ impl State {
         let t = thread as usize;
         let me = self.threads[t];
         let phase = me.phase;
-        let mut next = self;
-        next.threads[t] = Thread {
+        self.threads[t] = Thread {
             hand: me.hand,
             phase: returns_to(phase),
         };
         let o = object as usize - 1;
-        next.pool = freed;
-        next.tags[o] = 0;
+        self.pool = freed;
+        self.tags[o] = 0;
         Outcome {
-            state: next,
+            state: self,
             answer: Answer::Freed(object),
         }
     }
 
     // "Swap: put the object in that handover." It held 0 before: the scan ends. "Otherwise Look(the old one, the same position)."
-    fn hand_over(self, thread: u8, object: u8, position: u8) -> Outcome
+    fn hand_over(mut self, thread: u8, object: u8, position: u8) -> Outcome
         requires { ⌜ (thread < 8) × (position < 32) ⌝ }
         ensures { λ r. ⌜ r ≡ handOverOf self thread object position ⌝ }
     {
         let p = position as usize;
         let there = self.slots[p];
         let old = there.handover;
-        let mut next = self;
-        next.slots[p] = Slot {
+        self.slots[p] = Slot {
             hazard: there.hazard,
             mark: there.mark,
             handover: object,
@@ -203,24 +213,24 @@ impl State {
         let now = me.phase;
         let back = returns_to(now);
         if old == 0 {
-            next.threads[t] = Thread {
+            self.threads[t] = Thread {
                 hand: me.hand,
                 phase: back,
             };
             return Outcome {
-                state: next,
+                state: self,
                 answer: Answer::Left(object, position),
             };
         }
         // "The same position is looked at again."
         let again = position;
-        next.threads[t] = Thread {
+        self.threads[t] = Thread {
             hand: me.hand,
             phase: looking(back, old, again),
         };
         Outcome {
-            state: next,
-            answer: Answer::Working,
+            state: self,
+            answer: Answer::Working(Work::Displacement(position)),
         }
     }
 
@@ -242,10 +252,10 @@ impl State {
             Phase::Loaded { slot, link, object } => self.publish(thread, slot, link, object),
             Phase::Sweeping { slot, link } => {
                 let back = Phase::Published { slot, link };
-                self.empty(thread, slot, back, Answer::Working)
+                self.empty(thread, slot, back)
             }
             Phase::Published { slot, link } => self.confirm(thread, slot, link),
-            Phase::Draining { slot } => self.empty(thread, slot, Phase::Idle, Answer::Finished),
+            Phase::Draining { slot } => self.empty(thread, slot, Phase::Idle),
             Phase::Look { object, position }
             | Phase::SweepLook {
                 object,

@@ -35,7 +35,7 @@ pub enum Answer {
     Refused(u8),
     Taken(u8),
     Begun(u8),
-    Working,
+    Working(Work),
     Protected(u8, u32),
     Nothing,
     Swapped(u8),
@@ -44,6 +44,17 @@ pub enum Answer {
     Finished,
     Left(u8, u8),
     Freed(u8),
+}
+
+// What a step that is answered 3 did, and the position concerned: the slot's own, or the one looked at or swapped at.
+pub enum Work {
+    Publication(u8),
+    FailedRead(u8),
+    NoMatch(u8),
+    Match(u8),
+    Displacement(u8),
+    Found(u8),
+    FoundNothing(u8),
 }
 
 // "Each call hands the next state back."

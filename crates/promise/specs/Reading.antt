@@ -21,7 +21,7 @@ unfoldable pub noted : Reading → Answer → Reading
 noted r (Taken object) = record { takes = suc (r .takes); last = put (r .last) object (suc (r .takes)) }
 noted r (Refused number) = r
 noted r (Begun object) = r
-noted r Working = r
+noted r (Working work) = r
 noted r (Protected object tag) = r
 noted r Nothing = r
 noted r (Swapped object) = r
@@ -44,7 +44,7 @@ unfoldable pub renamed : Reading → Answer → Answer
 renamed r (Refused number) = Refused number
 renamed r (Taken object) = Taken (recordOf r object)
 renamed r (Begun object) = Begun (recordOf r object)
-renamed r Working = Working
+renamed r (Working work) = Working work
 renamed r (Protected object tag) = Protected (recordOf r object) tag
 renamed r Nothing = Nothing
 renamed r (Swapped object) = Swapped (recordOf r object)

@@ -1,4 +1,8 @@
 // 01's "Go on", one step of what a thread is in the middle of, with the step that request 2 adds after a publication.
+//
+// Request 7 has a 3 say what was done: "Let a be 1 after publishing, 2 after a failed second read, 3 after a look with no match, 4
+// after a look with a match, 5 after a swap that displaced, 6 after a drain that found something, and 7 after request 2's drain
+// that found nothing. Let b be the position concerned, the one looked at and not the next."
 use crate::num;
 use crate::place;
 use crate::trap;
@@ -54,7 +58,8 @@ impl Twin {
     }
 
     // "Loaded: store the object in the hazard, mark off", and then request 2: "After each publication the thread now takes one
-    // further step on that slot's handover, as Draining does". In the trap that sweeps early the object is still to be stored.
+    // further step on that slot's handover, as Draining does". In the trap that sweeps early the object is still to be stored. The
+    // two steps say the same there, so that the trap is seen by what it does and not by what it says.
     fn publish(self, t: usize, task: Task) -> Stepped {
         let p = plain::position(t, self.slots, task.slot);
         let early = self.trap == trap::SWEEP_EARLY;
@@ -70,7 +75,7 @@ impl Twin {
             seen: if early { task.seen } else { 0 },
             position: 0,
         };
-        out.becomes(t, next, 3, 0, 0)
+        out.becomes(t, next, 3, 1, p)
     }
 
     // "Equal to the hazard and not 0: mark on, idle, 4 Protected (object, tag). Equal and 0: idle, 5 Nothing (0, 0)."
@@ -100,7 +105,7 @@ impl Twin {
             seen: there,
             position: 0,
         };
-        self.becomes(t, next, 3, 0, 0)
+        self.becomes(t, next, 3, 2, p)
     }
 
     // "Draining: take the handover and put 0 there. It was 0: idle, 9 Finished (0, 0)." After a publication "it found 0, answer 3
@@ -123,24 +128,26 @@ impl Twin {
         };
         let object = place::lowest(&self.place, self.objects, from);
         if object == 0 {
-            return self.becomes(t, after(task), if task.back { 3 } else { 9 }, 0, 0);
+            let next = after(task);
+            if task.back {
+                return self.becomes(t, next, 3, 7, p);
+            }
+            return self.becomes(t, next, 9, 0, 0);
         }
         place::put(&mut self.place, object, place::carried(t));
-        self.scan(t, task, plain::LOOK, p)
+        self.scan(t, task, plain::LOOK, p, 6)
     }
 
-    // Look or Swap at a position, and 3.
-    fn scan(self, t: usize, task: Task, doing: usize, p: usize) -> Stepped {
-        self.becomes(t, plain::scanning(task, doing, p), 3, 0, 0)
+    // Look or Swap at the position concerned, and 3 with what was done there.
+    fn scan(self, t: usize, task: Task, doing: usize, p: usize, done: usize) -> Stepped {
+        self.becomes(t, plain::scanning(task, doing, p), 3, done, p)
     }
 
-    fn scan_on(self, t: usize, task: Task) -> Stepped {
+    // Look one position on, and 3 with what was done at this one.
+    fn scan_on(self, t: usize, task: Task, done: usize) -> Stepped {
         let p = task.position;
-        if p < 32 {
-            self.scan(t, task, plain::LOOK, p + 1)
-        } else {
-            self.scan(t, task, plain::LOOK, 32)
-        }
+        let on = if p < 32 { p + 1 } else { 32 };
+        self.becomes(t, plain::scanning(task, plain::LOOK, on), 3, done, p)
     }
 
     // 10 or 11, which "returns the thread to Published and not to idle" where its scan followed a publication.
@@ -162,12 +169,12 @@ impl Twin {
         }
         let blind = self.trap == trap::OTHERS_ONLY && own(t, self.slots, p);
         if num::at(&self.hazard, p) != object || blind {
-            return self.scan_on(t, task);
+            return self.scan_on(t, task, 3);
         }
         if self.trap == trap::FREE_AT_LAST && !later(&self.hazard, object, p) {
             return self.free(t, task, object);
         }
-        self.scan(t, task, plain::SWAP, p)
+        self.scan(t, task, plain::SWAP, p, 4)
     }
 
     fn free(mut self, t: usize, task: Task, object: usize) -> Stepped {
@@ -188,8 +195,8 @@ impl Twin {
         }
         place::put(&mut self.place, old, place::carried(t));
         if self.trap == trap::MOVE_ON {
-            return self.scan_on(t, task);
+            return self.scan_on(t, task, 5);
         }
-        self.scan(t, task, plain::LOOK, p)
+        self.scan(t, task, plain::LOOK, p, 5)
     }
 }

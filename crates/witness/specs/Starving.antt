@@ -90,7 +90,7 @@ unfolding numbersOf
 refused (Refused number) e = ap Refused e
 refused (Taken object) e = absurd (omega arith)
 refused (Begun object) e = absurd (omega arith)
-refused Working e = absurd (omega arith)
+refused (Working work) e = absurd (omega arith)
 refused (Protected object tag) e = absurd (omega arith)
 refused Nothing e = absurd (omega arith)
 refused (Swapped object) e = absurd (omega arith)

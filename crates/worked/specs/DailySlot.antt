@@ -39,32 +39,32 @@ schedule =
     84 ∷ 75 ∷ 0 ∷ 1 ∷ 0 ∷ 0 ∷ 35 ∷ 3 ∷ 0 ∷ 0 ∷
     []
 
--- the lines as printed: step 21 takes object 1 out of the handover, 23 frees it, and 24 ends the protect
+-- the lines as printed: step 21 takes object 1 out of the handover of position 1 (3 6 1), 23 frees it, and 24 ends the protect
 unfoldable pub printed : List Line
 printed =
     numbers (2 ∷ 1 ∷ 1 ∷ 2 ∷ []) ∷
     numbers (1 ∷ 0 ∷ 1 ∷ 1 ∷ 1 ∷ 0 ∷ []) ∷
     numbers (2 ∷ 0 ∷ 3 ∷ 6 ∷ 0 ∷ 0 ∷ []) ∷
     numbers (3 ∷ 1 ∷ 2 ∷ 2 ∷ 1 ∷ 0 ∷ []) ∷
-    numbers (4 ∷ 1 ∷ 7 ∷ 3 ∷ 0 ∷ 0 ∷ []) ∷
-    numbers (5 ∷ 1 ∷ 7 ∷ 3 ∷ 0 ∷ 0 ∷ []) ∷
+    numbers (4 ∷ 1 ∷ 7 ∷ 3 ∷ 1 ∷ 1 ∷ []) ∷
+    numbers (5 ∷ 1 ∷ 7 ∷ 3 ∷ 7 ∷ 1 ∷ []) ∷
     numbers (6 ∷ 1 ∷ 7 ∷ 4 ∷ 1 ∷ 801 ∷ []) ∷
     numbers (7 ∷ 0 ∷ 1 ∷ 1 ∷ 2 ∷ 0 ∷ []) ∷
     numbers (8 ∷ 0 ∷ 2 ∷ 2 ∷ 1 ∷ 0 ∷ []) ∷
-    numbers (9 ∷ 0 ∷ 7 ∷ 3 ∷ 0 ∷ 0 ∷ []) ∷
-    numbers (10 ∷ 0 ∷ 7 ∷ 3 ∷ 0 ∷ 0 ∷ []) ∷
+    numbers (9 ∷ 0 ∷ 7 ∷ 3 ∷ 1 ∷ 0 ∷ []) ∷
+    numbers (10 ∷ 0 ∷ 7 ∷ 3 ∷ 7 ∷ 0 ∷ []) ∷
     numbers (11 ∷ 0 ∷ 7 ∷ 4 ∷ 1 ∷ 801 ∷ []) ∷
     numbers (12 ∷ 0 ∷ 3 ∷ 6 ∷ 1 ∷ 0 ∷ []) ∷
     numbers (13 ∷ 0 ∷ 6 ∷ 2 ∷ 0 ∷ 0 ∷ []) ∷
     numbers (14 ∷ 0 ∷ 7 ∷ 9 ∷ 0 ∷ 0 ∷ []) ∷
     numbers (15 ∷ 0 ∷ 5 ∷ 2 ∷ 1 ∷ 0 ∷ []) ∷
-    numbers (16 ∷ 0 ∷ 7 ∷ 3 ∷ 0 ∷ 0 ∷ []) ∷
-    numbers (17 ∷ 0 ∷ 7 ∷ 3 ∷ 0 ∷ 0 ∷ []) ∷
+    numbers (16 ∷ 0 ∷ 7 ∷ 3 ∷ 3 ∷ 0 ∷ []) ∷
+    numbers (17 ∷ 0 ∷ 7 ∷ 3 ∷ 4 ∷ 1 ∷ []) ∷
     numbers (18 ∷ 0 ∷ 7 ∷ 10 ∷ 1 ∷ 1 ∷ []) ∷
     numbers (19 ∷ 1 ∷ 2 ∷ 2 ∷ 2 ∷ 0 ∷ []) ∷
-    numbers (20 ∷ 1 ∷ 7 ∷ 3 ∷ 0 ∷ 0 ∷ []) ∷
-    numbers (21 ∷ 1 ∷ 7 ∷ 3 ∷ 0 ∷ 0 ∷ []) ∷
-    numbers (22 ∷ 1 ∷ 7 ∷ 3 ∷ 0 ∷ 0 ∷ []) ∷
+    numbers (20 ∷ 1 ∷ 7 ∷ 3 ∷ 1 ∷ 1 ∷ []) ∷
+    numbers (21 ∷ 1 ∷ 7 ∷ 3 ∷ 6 ∷ 1 ∷ []) ∷
+    numbers (22 ∷ 1 ∷ 7 ∷ 3 ∷ 3 ∷ 1 ∷ []) ∷
     numbers (23 ∷ 1 ∷ 7 ∷ 11 ∷ 1 ∷ 0 ∷ []) ∷
     numbers (24 ∷ 1 ∷ 7 ∷ 4 ∷ 2 ∷ 802 ∷ []) ∷
     numbers (25 ∷ 0 ∷ 1 ∷ 1 ∷ 1 ∷ 0 ∷ []) ∷

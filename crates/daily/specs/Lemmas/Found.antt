@@ -28,7 +28,7 @@ after-sweep s h c slot link done t p is at o some held more =
     let w = way s c in
     let sizes = way-keeps-sizes s c w in
     let s′ = (stepOf s c) .state in
-    let found = done .found o (rw at held) some in
+    let found = done .found o (rw at held) some .1 in
     let here = subst (λ (k : ℕ). AtLook (s .sizes) (phaseOf s′ (c .thread)) (Published slot link) o k) at found in
     subst (λ (z : Sizes). Fate s′ t p o (positions z - p + 1) more) sizes
     (fate s′ (way-keeps-sound s c w h) t p (Published slot link) o (moved t p o s s′ sizes is here) more)

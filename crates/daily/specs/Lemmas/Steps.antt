@@ -51,7 +51,7 @@ unfolding numbersOf
 refusal (Refused k) off = record { number = k; is = refl }
 refusal (Taken o) off = absurd (false≢true (sym off))
 refusal (Begun o) off = absurd (false≢true (sym off))
-refusal Working off = absurd (false≢true (sym off))
+refusal (Working work) off = absurd (false≢true (sym off))
 refusal (Protected o tag) off = absurd (false≢true (sym off))
 refusal Nothing off = absurd (false≢true (sym off))
 refusal (Swapped o) off = absurd (false≢true (sym off))

@@ -18,7 +18,7 @@ use Rattle.entries.specs.Phases.{isIdle, carriedBy}
 use Rattle.entries.specs.PhaseFacts.{AtLook}
 use Rattle.machine.specs.Parts.{slotAt, handOf, phaseOf, positionOf}
 use Rattle.machine.specs.Sound.{Sound, slot-long}
-use Rattle.machine.specs.Answers.{numbersOf}
+use Rattle.machine.specs.Answers.{numbers, workOf, numbersOf}
 use Rattle.machine.specs.Step.{stepOf}
 use Rattle.laws.specs.Promise.{way, way-keeps-sound, way-keeps-sizes}
 use Rattle.laws.specs.Ways.{Does, Empties, by-drain, by-sweep, Way, refused, takes, begins, swaps, moves, reads, retires, clears, publishes, protects, finds-nothing, loads-again, finishes, sweeps, drains, meets, passes, frees, leaves, displaces}
@@ -85,7 +85,7 @@ module _ (s : State) (c : Call) (slot link : ℕ) (now : phaseOf s (c .thread) �
       (same, b ∙ rw (same, same′))
 
   swept : {o : Outcome} → Way s c o → isAccepted (eventBy c o) ≡ true → Sweeps s c slot link o
-  unfolding isIdle carriedBy numbersOf
+  unfolding isIdle carriedBy workOf numbersOf
   swept (refused first) took = refused-not s c first took
   swept (takes d empty next free) took = not-idle s c now refl d (omega arith)
   swept (begins d idle slot′ link′ read) took = not-idle s c now refl d (omega arith)
@@ -103,9 +103,8 @@ module _ (s : State) (c : Call) (slot link : ℕ) (now : phaseOf s (c .thread) �
       let its = its-own (was .empties) in
       let at : p ≡ q = ap (positionOf s (c .thread)) (sym (its .0)) ∙ was .at in
       record {
-        working = refl;
         emptied = rw at (ap (λ (x : Slot). x .handover) (getD-set-same (s .slots) q (withHandover (slotAt s q) 0) emptySlot (slot-long s (h .ranged) q inside)));
-        found-nothing = λ none. its-new-phase s c _ (Published slot′ link′) h (d .thread) ∙ its .1;
+        found-nothing = λ none. (ap (numbers 3 7) (sym at), its-new-phase s c _ (Published slot′ link′) h (d .thread) ∙ its .1);
         found = λ x is some. let none : (slotAt s p) .handover ≡ 0 = rw at empty in absurd (omega arith);
       }
   swept (drains q {back = back} {o = o} next d was inside full scans) took =
@@ -114,7 +113,6 @@ module _ (s : State) (c : Call) (slot link : ℕ) (now : phaseOf s (c .thread) �
       let held : (slotAt s p) .handover ≡ o = rw at full in
       let left = its-new-phase s c (handOf s (c .thread)) next h (d .thread) in
       record {
-        working = refl;
         emptied = rw at (ap (λ (x : Slot). x .handover) (getD-set-same (s .slots) q (withHandover (slotAt s q) 0) emptySlot (slot-long s (h .ranged) q inside)));
         found-nothing = λ none. let some = scans .some in absurd (omega arith);
         found =
@@ -123,7 +121,7 @@ module _ (s : State) (c : Call) (slot link : ℕ) (now : phaseOf s (c .thread) �
             let look = subst (λ (b : Phase). AtLook (s .sizes) next b o q) (its .1) scans in
             let here = subst (λ (k : ℕ). AtLook (s .sizes) next (Published slot link) o k) (sym at) look in
             let this = subst (λ (k : ℕ). AtLook (s .sizes) next (Published slot link) k p) same here in
-            subst (λ (y : Phase). AtLook (s .sizes) y (Published slot link) x p) (sym left) this;
+            (ap (numbers 3 6) (sym at), subst (λ (y : Phase). AtLook (s .sizes) y (Published slot link) x p) (sym left) this);
       }
   swept (meets next d was inside match scans) took = not-carrying s c now refl (was .carries) (was .some)
   swept (passes next d was inside other scans) took = not-carrying s c now refl (was .carries) (was .some)

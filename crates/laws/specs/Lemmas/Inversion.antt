@@ -8,8 +8,6 @@ use borrow.Author.Tests.{eqb-true, eqb-false, ne-eqb, le-leb, ltb-true, ltb-fals
 use Rattle.machine.specs.declared.State.{State}
 use Rattle.machine.specs.declared.Call.{Call}
 use Rattle.machine.specs.declared.Outcome.{Outcome}
-use Rattle.machine.specs.declared.Answer.{Answer}
-use Rattle.machine.specs.declared.Answer.the-variants.{Working, Finished}
 use Rattle.entries.specs.declared.Phase.{Phase}
 use Rattle.entries.specs.declared.Phase.the-variants.{Idle, Loaded, Sweeping, Published, Draining, Look, Swap, SweepLook, SweepSwap}
 use Rattle.basics.specs.Rows.{first-some}
@@ -21,7 +19,7 @@ use Rattle.pool.specs.Promise.{next-is-free}
 use Rattle.machine.specs.Parts.{linkAt, phaseOf, slotAt, positionOf, withSlot, become}
 use Rattle.machine.specs.Sound.{its-phase, its-slot, its-position}
 use Rattle.machine.specs.Calls.{outcome, expected, takeOf, protectOf, swapOf, readOf, retireOf, clearOf}
-use Rattle.machine.specs.GoOn.{publishOf, confirmOf, emptyOf, sweepOf, drainOf, lookOf, handOverOf, goOnFrom, goOnOf}
+use Rattle.machine.specs.GoOn.{publishOf, confirmOf, nothingFound, emptyOf, sweepOf, drainOf, lookOf, handOverOf, goOnFrom, goOnOf}
 use Rattle.machine.specs.Refusals.{usesSlot, usesLink, withoutSlot, readsSlot, refusals, refusalOf}
 use Rattle.machine.specs.Accepted.{Accepted, accepted, by-operation}
 use Rattle.machine.specs.Step.{doneOf, stepOf}
@@ -117,14 +115,14 @@ module _ (s : State) (c : Call) (a : Accepted s c) where
         (λ other. loads-again on e (f .0) (f .1) refl (eqb-false _ _ other))
 
     -- a handover is taken, by a drain or by a sweep
-    module _ (slot : ℕ) (back : Phase) (end : Answer) (within-slots : slot < s .sizes .slots) (kind : Back back)
+    module _ (slot : ℕ) (back : Phase) (within-slots : slot < s .sizes .slots) (kind : Back back)
         (fine : phaseInRange (s .sizes) back ≡ true) (was : Drains s c back (positionOf s t slot)) where
       abbrev p : ℕ
       p = positionOf s t slot
 
       empty-way : ((slotAt s p) .handover ≡ 0 → p < positions (s .sizes)
-          → Way s c (outcome (become (withSlot s p (withHandover (slotAt s p) 0)) t back) end))
-          → Way s c (emptyOf s t slot back end)
+          → Way s c (outcome (become (withSlot s p (withHandover (slotAt s p) 0)) t back) (nothingFound back p)))
+          → Way s c (emptyOf s t slot back)
       unfolding emptyOf
       empty-way nothing =
           let inside = its-position s (a .sound .ranged) t slot (a .fields .thread) within-slots in
@@ -136,22 +134,22 @@ module _ (s : State) (c : Call) (a : Accepted s c) where
           drains p _ on was inside refl (look-scans (s .sizes) kind _ p fine (omega arith) (facts .handover) (omega arith)))
 
     sweep-way : (slot link : ℕ) → phaseOf s t ≡ Sweeping slot link → Way s c (sweepOf s t slot link)
-    unfolding sweepOf carriedBy protecting
+    unfolding sweepOf nothingFound isIdle carriedBy protecting
     sweep-way slot link e =
         let f = sweeping-facts (s .sizes) slot link (in-range (Sweeping slot link) e) in
         let was : Drains s c (Published slot link) (positionOf s t slot) =
         record { slot = slot; at = refl; empties = by-sweep link e refl; carries = rw e; protects = rw e }
         in
-        empty-way slot (Published slot link) Working (f .0) (to-published slot link) (published-good (s .sizes) slot link (f .0) (f .1)) was
+        empty-way slot (Published slot link) (f .0) (to-published slot link) (published-good (s .sizes) slot link (f .0) (f .1)) was
         (λ none inside. sweeps _ on was inside none (f .0) (f .1))
 
     drain-way : (slot : ℕ) → phaseOf s t ≡ Draining slot → Way s c (drainOf s t slot)
-    unfolding drainOf carriedBy protecting
+    unfolding drainOf nothingFound isIdle carriedBy protecting
     drain-way slot e =
         let was : Drains s c Idle (positionOf s t slot) =
         record { slot = slot; at = refl; empties = by-drain e refl; carries = rw e; protects = rw e }
         in
-        empty-way slot Idle Finished (draining-facts (s .sizes) slot (in-range (Draining slot) e)) to-idle (idle-good (s .sizes)) was
+        empty-way slot Idle (draining-facts (s .sizes) slot (in-range (Draining slot) e)) to-idle (idle-good (s .sizes)) was
         (λ none inside. finishes _ on was inside none)
 
     look-way : {now back : Phase} (o q : ℕ) → phaseOf s t ≡ now → AtLook (s .sizes) now back o q → Way s c (lookOf s t o q)

@@ -3,15 +3,15 @@ use borrow.Author.Needs.{needs}
 use Prim.Native.Nat.{_≤_, _-_}
 use Rattle.beside.proofs.show.seen.Statement.{statement}
 use Rattle.beside.proofs.show.seen.Tie as tie
-use Rattle.plain.proofs.wide32.Reads as wide32-reads
 use Rattle.compare.proofs.number.Reads as number-reads
 use Rattle.compare.proofs.text.Reads as text-reads
+use Rattle.beside.proofs.tally.Tally.at.Reads as at-reads
 
 abbrev Inv-loop : tie.InvT-loop
-Inv-loop low high t k₀ t6 t7 t8 k = k ≤ 64
+Inv-loop low high t k₀ t6 t7 t8 k = k ≤ 32
 
 abbrev μ-loop : tie.MeasureT-loop
-μ-loop low high t k₀ t6 t7 t8 k = 64 - k
+μ-loop low high t k₀ t6 t7 t8 k = 32 - k
 
 loop-holds : tie.Need-loop-holds Inv-loop μ-loop
 loop-holds c = search needs
@@ -31,14 +31,8 @@ slice-aggregate-text-2 c = search needs
 text-requires-2 : tie.Need-text-requires-2 Inv-loop μ-loop
 text-requires-2 c κs = search needs
 
-mul-wide32 : tie.Need-mul-wide32 Inv-loop μ-loop
-mul-wide32 c = search needs
-
-element-copy-out-wide32 : tie.Need-element-copy-out-wide32 Inv-loop μ-loop
-element-copy-out-wide32 c = search needs
-
-wide32-requires : tie.Need-wide32-requires Inv-loop μ-loop
-wide32-requires c κs = search needs
+at-requires : tie.Need-at-requires Inv-loop μ-loop
+at-requires c κs = search needs
 
 number-requires-2 : tie.Need-number-requires-2 Inv-loop μ-loop
 number-requires-2 c κs = search needs
@@ -73,9 +67,7 @@ seen-spec =
     number-requires
     slice-aggregate-text-2
     text-requires-2
-    mul-wide32
-    element-copy-out-wide32
-    wide32-requires
+    at-requires
     number-requires-2
     add-k
     loop-less

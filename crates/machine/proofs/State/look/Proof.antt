@@ -1,6 +1,5 @@
 -- `look` is the case Look: past the last position it lets the object go, and before that it goes by the hazard there.
 use mathlib.Core.Path.{_∙_}
-use mathlib.Core.Logic.{⊎-elim}
 use native.Mathlib.Numerals.{add-one}
 use native.Mathlib.Nat.{le-refl}
 use borrow.Author.Tests.{lt-ltb, le-ltb, eq-eqb, ne-eqb}
@@ -17,12 +16,16 @@ returns c = c .let-go .ensures ∙ rw (le-ltb _ _ (c .before .if1 .taken), le-lt
 returns-2 : tie.Need-returns-2
 unfolding lookOf
 returns-2 c =
-    let back = c .before .before .returns-to .ensures in
-    let below = lt-ltb _ _ (c .before .before .before .before .before .if1 .left) in
-    ⊎-elim
-    (λ w. rw (w .2, w .1 .ensures, back, below, eq-eqb _ _ (w .0 .taken)))
-    (λ w. rw (w .2, w .1 .ensures, back, below, ne-eqb _ _ (w .0 .left), add-one))
-    (c .if2 .came)
+    let back = c .before .before .before .returns-to .ensures in
+    let below = lt-ltb _ _ (c .before .before .before .before .before .before .if1 .left) in
+    rw (c .swapping .ensures, back, below, eq-eqb _ _ (c .before .if2 .taken))
+
+returns-3 : tie.Need-returns-3
+unfolding lookOf
+returns-3 c =
+    let back = c .before .before .before .returns-to .ensures in
+    let below = lt-ltb _ _ (c .before .before .before .before .before .before .if1 .left) in
+    rw (c .looking .ensures, back, below, ne-eqb _ _ (c .before .if2 .left), add-one)
 
 pub look-spec : {M : Type 1} → statement M
 look-spec =
@@ -38,7 +41,10 @@ look-spec =
     (λ c κs. search needs)
     (λ c κs. search needs)
     (λ c. search needs)
+    (λ c. search needs)
+    returns-2
+    (λ c. search needs)
     (λ c κs. search needs)
     (λ c. search needs)
     (λ c. search needs)
-    returns-2)
+    returns-3)
