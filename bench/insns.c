@@ -10,16 +10,21 @@
 #define INTERFACE 1
 #endif
 
+#define PAGE 4096
+
 typedef uint64_t qemu_plugin_id_t;
 struct qemu_plugin_tb;
 struct qemu_plugin_insn;
 
 void qemu_plugin_register_vcpu_tb_trans_cb(qemu_plugin_id_t id, void (*cb)(qemu_plugin_id_t, struct qemu_plugin_tb *));
 void qemu_plugin_register_vcpu_tb_exec_cb(struct qemu_plugin_tb *tb, void (*cb)(unsigned, void *), int flags, void *data);
+void qemu_plugin_register_vcpu_insn_exec_cb(struct qemu_plugin_insn *insn, void (*cb)(unsigned, void *), int flags, void *data);
 void qemu_plugin_register_atexit_cb(qemu_plugin_id_t id, void (*cb)(qemu_plugin_id_t, void *), void *data);
 size_t qemu_plugin_tb_n_insns(const struct qemu_plugin_tb *tb);
 struct qemu_plugin_insn *qemu_plugin_tb_get_insn(const struct qemu_plugin_tb *tb, size_t index);
 const char *qemu_plugin_insn_symbol(const struct qemu_plugin_insn *insn);
+uint64_t qemu_plugin_insn_vaddr(const struct qemu_plugin_insn *insn);
+size_t qemu_plugin_insn_size(const struct qemu_plugin_insn *insn);
 
 __attribute__((visibility("default"))) int qemu_plugin_version = INTERFACE;
 
@@ -49,10 +54,25 @@ static int asked_for(const struct qemu_plugin_tb *tb)
     return 0;
 }
 
+// Whether the last of these instructions reaches the end of its page. Where it goes on beyond it, QEMU leaves it to the next block and
+// tells of it in both, so it would be counted twice.
+static int at_page_end(struct qemu_plugin_insn *last)
+{
+    return qemu_plugin_insn_vaddr(last) % PAGE + qemu_plugin_insn_size(last) >= PAGE;
+}
+
 static void on_translate(qemu_plugin_id_t id, struct qemu_plugin_tb *tb)
 {
     (void)id;
-    qemu_plugin_register_vcpu_tb_exec_cb(tb, asked_for(tb) ? on_run_inside : on_run, 0, (void *)(uintptr_t)qemu_plugin_tb_n_insns(tb));
+    void (*counting)(unsigned, void *) = asked_for(tb) ? on_run_inside : on_run;
+    size_t count = qemu_plugin_tb_n_insns(tb);
+    struct qemu_plugin_insn *last = qemu_plugin_tb_get_insn(tb, count - 1);
+    if (count > 1 && at_page_end(last)) {
+        // by itself: an instruction that is left out of this block is then not counted in it
+        qemu_plugin_register_vcpu_insn_exec_cb(last, counting, 0, (void *)(uintptr_t)1);
+        count--;
+    }
+    qemu_plugin_register_vcpu_tb_exec_cb(tb, counting, 0, (void *)(uintptr_t)count);
 }
 
 static void on_end(qemu_plugin_id_t id, void *data)

@@ -3,6 +3,7 @@
 //! With no argument it checks that all give the same, and prints the tables. `count WHICH N TIMES` runs one version and nothing else, for a
 //! tool that counts instructions. `stack` prints how much stack a whole run of each version takes.
 
+mod handed;
 mod painted;
 mod plain;
 mod records;
@@ -52,8 +53,9 @@ fn of(objects: u8) -> Schedule {
     schedule(Sizes { threads: 8, slots: 4, links: 16, objects }, STEPS, SEED)
 }
 
-/// The plain versions, by how their check finds that each object is in one place: see plain/refusing.rs.
-const WAYS: [&str; 4] = ["counts", "whole", "walk", "flat"];
+/// The plain versions, by how their check finds that each object is in one place: see plain/refusing.rs. The last has the check of `flat`
+/// and hands its state on by value: see plain/by_value.rs.
+const WAYS: [&str; 5] = ["counts", "whole", "walk", "flat", "value"];
 
 fn checksum(way: &str, input: &[u8]) -> u64 {
     match way {
@@ -61,6 +63,7 @@ fn checksum(way: &str, input: &[u8]) -> u64 {
         "whole" => records::checksum::<WHOLE>(input),
         "walk" => records::checksum::<WALK>(input),
         "flat" => records::checksum::<FLAT>(input),
+        "value" => handed::checksum(input),
         _ => unknown(way),
     }
 }
@@ -72,6 +75,7 @@ fn text(way: &str, input: &[u8], out: &mut Vec<u8>) {
         "whole" => records::text::<WHOLE>(input, out),
         "walk" => records::text::<WALK>(input, out),
         "flat" => records::text::<FLAT>(input, out),
+        "value" => handed::text(input, out),
         _ => unknown(way),
     }
 }
@@ -113,17 +117,19 @@ fn slope(times: impl Iterator<Item = f64>) -> f64 {
 }
 
 /// All versions on one schedule; a difference ends the program.
-fn compare(objects: u8, made: &Schedule) {
+fn compare(name: &str, made: &Schedule) {
     let sum = proved(&made.input);
     for way in WAYS {
         let other = checksum(way, &made.input);
         if sum != other {
-            eprintln!("bench: N {objects}: the proved machine's checksum is {sum}, that of {way} {other}");
+            eprintln!("bench: {name}: the proved machine's checksum is {sum}, that of {way} {other}");
             std::process::exit(1);
         }
     }
     let [refused, taken, begun, working, protected, nothing, swapped, moved, tag, finished, left, freed] = made.answers;
-    println!("N {objects:3}  checksum {sum} from all; answers: refused {refused}, taken {taken}, begun {begun}, working {working}, protected {protected}, nothing {nothing}, swapped {swapped}, moved {moved}, tag {tag}, finished {finished}, left {left}, freed {freed}");
+    println!("{name}  checksum {sum} from all; answers: refused {refused}, taken {taken}, begun {begun}, working {working}, protected {protected}, nothing {nothing}, swapped {swapped}, moved {moved}, tag {tag}, finished {finished}, left {left}, freed {freed}");
+    let [publication, failed, no_match, matched, displacement, found, found_nothing] = made.work;
+    println!("       of working: publication {publication}, failed read {failed}, no match {no_match}, match {matched}, displacement {displacement}, found {found}, found nothing {found_nothing}");
 }
 
 /// One line of numbers: the proved version's, and of each plain one its own and how often it goes into the proved one's.
@@ -137,7 +143,7 @@ fn line(objects: u8, row: &[f64]) {
 
 fn table(title: &str, versions: Versions) {
     println!("\n{title}, T 8, H 4, L 16, {STEPS} steps: ns a call, the fastest of {ROUNDS} rounds\n");
-    println!("   N    proved    counts  ratio     whole  ratio      walk  ratio      flat  ratio");
+    println!("   N    proved    counts  ratio     whole  ratio      walk  ratio      flat  ratio     value  ratio");
     let times = fastest(versions);
     for (objects, row) in OBJECTS.iter().zip(&times) {
         line(*objects, row);
@@ -151,10 +157,13 @@ fn table(title: &str, versions: Versions) {
 
 fn all() {
     for objects in OBJECTS {
-        compare(objects, &of(objects));
+        compare(&format!("N {objects:3}"), &of(objects));
     }
+    // compared and not timed: few threads that meet often, since no swap displaces in the schedules above
+    compare("small", &schedule(Sizes { threads: 3, slots: 2, links: 1, objects: 8 }, STEPS, SEED));
     println!("\nThe plain versions differ in their soundness check. counts: a count per object, left at the first entry that is wrong.");
     println!("whole: a count per object, every entry looked at. walk: the places walked for each object. flat: the same, laid in a row first.");
+    println!("value: flat with the state handed on by value, as the proved machine has it; the others change it in place.");
     let mut versions: Versions = vec![Box::new(|input| _ = black_box(proved(input)))];
     for way in WAYS {
         versions.push(Box::new(move |input| _ = black_box(checksum(way, input))));
@@ -218,12 +227,13 @@ fn count(which: &str, objects: u8, times: usize) {
 /// Bytes of stack that a run takes, at N 240.
 fn stack() {
     let made = of(240);
-    let runs: [(&str, fn(&[u8]) -> u64); 5] = [
+    let runs: [(&str, fn(&[u8]) -> u64); 6] = [
         ("proved", proved),
         ("counts", records::checksum::<COUNTS>),
         ("whole", records::checksum::<WHOLE>),
         ("walk", records::checksum::<WALK>),
         ("flat", records::checksum::<FLAT>),
+        ("value", handed::checksum),
     ];
     for (name, run) in runs {
         println!("{:6} {name}", painted::taken(run, &made.input));

@@ -1,8 +1,10 @@
 //! The record machine in plain Rust, written from the scope page and the change requests alone: the state is changed where it stands,
 //! and its soundness is checked before every call, as the rules say.
 //!
-//! Here are the state and what each call does; the check, in the ways that are compared, and the refusals are in plain/refusing.rs.
+//! Here are the state and what each call does; the check, in the ways that are compared, and the refusals are in plain/refusing.rs. In
+//! plain/by_value.rs are the same rules with the state handed on by value.
 
+mod by_value;
 mod refusing;
 
 pub use refusing::{COUNTS, FLAT, WALK, WHOLE};
@@ -132,7 +134,7 @@ pub enum Answer {
     Refused(u8),
     Taken(u8),
     Begun(u8),
-    Working,
+    Working(Work, u8),
     Protected(u8, u32),
     Nothing,
     Swapped(u8),
@@ -143,6 +145,18 @@ pub enum Answer {
     Freed(u8),
 }
 
+/// What a step that is answered 3 did, by its number; the position concerned stands beside it.
+#[derive(Clone, Copy)]
+pub enum Work {
+    Publication = 1,
+    FailedRead,
+    NoMatch,
+    Match,
+    Displacement,
+    Found,
+    FoundNothing,
+}
+
 impl Answer {
     /// The number of the answer or the refusal, and its two values.
     pub fn numbers(self) -> (u8, u32, u32) {
@@ -150,7 +164,7 @@ impl Answer {
             Answer::Refused(number) => (number, 0, 0),
             Answer::Taken(object) => (1, object.into(), 0),
             Answer::Begun(object) => (2, object.into(), 0),
-            Answer::Working => (3, 0, 0),
+            Answer::Working(work, position) => (3, work as u32, position.into()),
             Answer::Protected(object, tag) => (4, object.into(), tag),
             Answer::Nothing => (5, 0, 0),
             Answer::Swapped(object) => (6, object.into(), 0),
@@ -250,23 +264,14 @@ impl State {
                 let position = self.position(number, slot);
                 self.slots[position].hazard = object;
                 self.slots[position].mark = false;
-                (Phase::Sweeping { slot, link }, Answer::Working)
+                (Phase::Sweeping { slot, link }, Answer::Working(Work::Publication, position as u8))
             }
-            Phase::Sweeping { slot, link } => self.emptied(number, slot, Back::Protect { slot, link }, Answer::Working),
-            Phase::Published { slot, link } => {
-                let object = self.links[link as usize];
+            Phase::Sweeping { slot, link } => {
                 let position = self.position(number, slot);
-                let slot_there = &mut self.slots[position];
-                if object != slot_there.hazard {
-                    (Phase::Loaded { slot, link, object }, Answer::Working)
-                } else if object == 0 {
-                    (Phase::Idle, Answer::Nothing)
-                } else {
-                    slot_there.mark = true;
-                    (Phase::Idle, Answer::Protected(object, self.tags[object as usize - 1]))
-                }
+                self.emptied(position, Back::Protect { slot, link }, Answer::Working(Work::FoundNothing, position as u8))
             }
-            Phase::Draining { slot } => self.emptied(number, slot, Back::Idle, Answer::Finished),
+            Phase::Published { slot, link } => self.confirmed(number, slot, link),
+            Phase::Draining { slot } => self.emptied(self.position(number, slot), Back::Idle, Answer::Finished),
             Phase::Look { object, position, back } if position >= end => {
                 self.free[object as usize - 1] = true;
                 self.tags[object as usize - 1] = 0;
@@ -274,15 +279,15 @@ impl State {
             }
             Phase::Look { object, position, back } => {
                 if self.slots[position as usize].hazard == object {
-                    (Phase::Swap { object, position, back }, Answer::Working)
+                    (Phase::Swap { object, position, back }, Answer::Working(Work::Match, position))
                 } else {
-                    (Phase::Look { object, position: position + 1, back }, Answer::Working)
+                    (Phase::Look { object, position: position + 1, back }, Answer::Working(Work::NoMatch, position))
                 }
             }
             Phase::Swap { object, position, back } => {
                 match std::mem::replace(&mut self.slots[position as usize].handover, object) {
                     0 => (back.phase(), Answer::Left(object, position)),
-                    old => (Phase::Look { object: old, position, back }, Answer::Working),
+                    old => (Phase::Look { object: old, position, back }, Answer::Working(Work::Displacement, position)),
                 }
             }
         };
@@ -290,12 +295,26 @@ impl State {
         answer
     }
 
-    /// Takes a slot's handover: on to `back` where it was empty, with that answer, or else a scan of what stood there.
-    fn emptied(&mut self, number: u8, slot: u8, back: Back, none: Answer) -> (Phase, Answer) {
+    /// The second read of the link.
+    fn confirmed(&mut self, number: u8, slot: u8, link: u8) -> (Phase, Answer) {
+        let object = self.links[link as usize];
         let position = self.position(number, slot);
+        let slot_there = &mut self.slots[position];
+        if object != slot_there.hazard {
+            (Phase::Loaded { slot, link, object }, Answer::Working(Work::FailedRead, position as u8))
+        } else if object == 0 {
+            (Phase::Idle, Answer::Nothing)
+        } else {
+            slot_there.mark = true;
+            (Phase::Idle, Answer::Protected(object, self.tags[object as usize - 1]))
+        }
+    }
+
+    /// Takes a slot's handover: on to `back` where it was empty, with that answer, or else a scan of what stood there.
+    fn emptied(&mut self, position: usize, back: Back, none: Answer) -> (Phase, Answer) {
         match std::mem::take(&mut self.slots[position].handover) {
             0 => (back.phase(), none),
-            object => (Phase::Look { object, position: position as u8, back }, Answer::Working),
+            object => (Phase::Look { object, position: position as u8, back }, Answer::Working(Work::Found, position as u8)),
         }
     }
 

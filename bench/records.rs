@@ -1,6 +1,7 @@
-//! Schedule records, and the two runs over a schedule's bytes: to a checksum, and to text.
+//! Schedule records, and the two runs over a schedule's bytes, to a checksum and to text, with the state changed in place. In handed.rs are
+//! the same runs with the state handed on by value.
 
-use crate::plain::{Call, Sizes, State};
+use crate::plain::{Answer, Call, Sizes, State};
 
 pub enum Read {
     Sizes(Sizes),
@@ -37,6 +38,15 @@ fn mixed(sum: u64, number: u32) -> u64 {
     sum % (1 << 32) * 1_000_003 + u64::from(number)
 }
 
+pub fn mixed_answer(sum: u64, answer: Answer) -> u64 {
+    let (number, a, b) = answer.numbers();
+    mixed(mixed(mixed(sum, number.into()), a), b)
+}
+
+pub fn mixed_places(sum: u64, places: [u8; 5]) -> u64 {
+    places.iter().fold(sum, |sum, &place| mixed(sum, place.into()))
+}
+
 /// The checksum of all answers, each as its number and two values, and of the five places at the end.
 pub fn checksum<const WAY: u8>(input: &[u8]) -> u64 {
     let mut state = match read(input) {
@@ -49,10 +59,9 @@ pub fn checksum<const WAY: u8>(input: &[u8]) -> u64 {
             Read::Step(call) => call,
             _ => return sum,
         };
-        let (number, a, b) = state.step::<WAY>(&call).numbers();
-        sum = mixed(mixed(mixed(sum, number.into()), a), b);
+        sum = mixed_answer(sum, state.step::<WAY>(&call));
     }
-    state.count::<WAY>().iter().fold(sum, |sum, &place| mixed(sum, place.into()))
+    mixed_places(sum, state.count::<WAY>())
 }
 
 /// A number's digits, and the byte after them.
@@ -79,39 +88,67 @@ fn line(out: &mut Vec<u8>, numbers: &[u32]) {
     put(out, *last, b'\n');
 }
 
-fn stop(out: &mut Vec<u8>, records: u32, number: u8) {
+pub fn stop(out: &mut Vec<u8>, records: u32, number: u8) {
     out.extend_from_slice(b"stop ");
     line(out, &[records, number.into()]);
 }
 
+pub fn told(out: &mut Vec<u8>, step: u32, call: &Call, answer: Answer) {
+    let (number, a, b) = answer.numbers();
+    line(out, &[step, call.thread.into(), call.operation.into(), number.into(), a, b]);
+}
+
+pub fn end(out: &mut Vec<u8>, steps: u32, places: [u8; 5]) {
+    let [free, links, hands, handovers, carried] = places.map(u32::from);
+    out.extend_from_slice(b"end ");
+    line(out, &[steps, free, links, hands, handovers, carried]);
+}
+
+/// The machine that the first record asks for, and the first line; where there is none, its stop line.
+pub fn opened(input: &[u8], out: &mut Vec<u8>) -> Option<State> {
+    let (sizes, refused) = match read(input) {
+        Read::Sizes(sizes) => (Some(sizes), 20),
+        Read::Step(_) | Read::End => (None, 42),
+        Read::Refused(number) => (None, number),
+    };
+    let state = sizes.and_then(State::start);
+    match &state {
+        Some(state) => {
+            let z = &state.sizes;
+            line(out, &[z.threads, z.slots, z.links, z.objects].map(u32::from));
+        }
+        None => stop(out, 0, refused),
+    }
+    state
+}
+
+/// What comes after so many steps, with the refusals of a record that may not stand there.
+pub fn next(left: &[u8], steps: u32) -> Read {
+    match read(left) {
+        Read::Step(_) if steps == 6000 => Read::Refused(43),
+        Read::Sizes(_) => Read::Refused(42),
+        record => record,
+    }
+}
+
 /// The text that the program prints for this input.
 pub fn text<const WAY: u8>(input: &[u8], out: &mut Vec<u8>) {
-    let sizes = match read(input) {
-        Read::Sizes(sizes) => sizes,
-        Read::Step(_) | Read::End => return stop(out, 0, 42),
-        Read::Refused(number) => return stop(out, 0, number),
-    };
-    let mut state = match State::start(sizes) {
+    let mut state = match opened(input, out) {
         Some(state) => state,
-        None => return stop(out, 0, 20),
+        None => return,
     };
-    line(out, &[sizes.threads, sizes.slots, sizes.links, sizes.objects].map(u32::from));
     let mut left = &input[10..];
     let mut steps = 0;
     loop {
-        let call = match read(left) {
-            Read::Step(_) if steps == 6000 => return stop(out, steps + 1, 43),
+        let call = match next(left, steps) {
             Read::Step(call) => call,
-            Read::Sizes(_) => return stop(out, steps + 1, 42),
             Read::Refused(number) => return stop(out, steps + 1, number),
-            Read::End => break,
+            _ => break,
         };
-        let (number, a, b) = state.step::<WAY>(&call).numbers();
+        let answer = state.step::<WAY>(&call);
         steps += 1;
-        line(out, &[steps, call.thread.into(), call.operation.into(), number.into(), a, b]);
+        told(out, steps, &call, answer);
         left = &left[10..];
     }
-    let [free, links, hands, handovers, carried] = state.count::<WAY>().map(u32::from);
-    out.extend_from_slice(b"end ");
-    line(out, &[steps, free, links, hands, handovers, carried]);
+    end(out, steps, state.count::<WAY>());
 }

@@ -20,25 +20,31 @@ impl Random {
     }
 }
 
-/// A schedule as the program's input, and how often each answer number comes in it; refusals are counted at 0.
+/// A schedule as the program's input, how often each answer number comes in it, refusals being counted at 0, and how often each kind of
+/// work that is answered 3.
 pub struct Schedule {
     pub input: Vec<u8>,
     pub answers: [u32; 12],
+    pub work: [u32; 7],
 }
 
 pub fn schedule(sizes: Sizes, steps: usize, seed: u64) -> Schedule {
     let mut random = Random(seed);
     let mut state = State::start(sizes).expect("sizes in range");
-    let mut made = Schedule { input: Vec::with_capacity(10 + 10 * steps), answers: [0; 12] };
+    let mut made = Schedule { input: Vec::with_capacity(10 + 10 * steps), answers: [0; 12], work: [0; 7] };
     write_sizes(&mut made.input, &sizes);
     for _ in 0..steps {
         let call = if random.percent(3) { any_call(&mut random, &sizes) } else { sensible(&mut random, &state) };
         write_step(&mut made.input, &call);
-        let answer = match state.step::<COUNTS>(&call) {
+        let answer = state.step::<COUNTS>(&call);
+        let number = match answer {
             Answer::Refused(_) => 0,
             answer => answer.numbers().0,
         };
-        made.answers[usize::from(answer)] += 1;
+        made.answers[usize::from(number)] += 1;
+        if let Answer::Working(work, _) = answer {
+            made.work[work as usize - 1] += 1;
+        }
     }
     made
 }

@@ -12,6 +12,8 @@ pub const WHOLE: u8 = 1;
 pub const WALK: u8 = 2;
 /// As `WALK`, but the numbers that can hold an object are laid in one row first, which is walked for each object.
 pub const FLAT: u8 = 3;
+/// As `FLAT`, in a machine that hands its state on by value: see by_value.rs.
+pub const VALUE: u8 = 4;
 
 /// The numbers that can hold an object: links, hands, handovers, and what each thread carries.
 const PLACES: usize = LINKS + THREADS + THREADS * SLOTS + THREADS;
@@ -107,7 +109,8 @@ impl State {
         })
     }
 
-    /// The same with the places laid in a row first.
+    /// The same with the places laid in a row first. Two versions walk so, and each compiles it into its check, as if it were the only one.
+    #[inline(always)]
     fn walked_flat(&self) -> bool {
         let mut row = [0u8; PLACES];
         let (links, others) = row.split_at_mut(LINKS);
