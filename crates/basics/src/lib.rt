@@ -1,4 +1,6 @@
 // Four small functions and, in specs/, the general facts that every crate above may lean on.
+#![tactic(auto)]
+
 mod walk;
 
 ghost use Rattle.std.specs.Prelude.{◌≡◌, min};

@@ -10,7 +10,8 @@ use Rattle.entries.specs.declared.Thread.{Thread}
 use Rattle.entries.specs.declared.Slot.{Slot}
 use Rattle.pool.specs.declared.Pool.{Pool}
 use Rattle.basics.specs.Tests.{by_test, ands, first_false, second_false}
-use Rattle.basics.specs.Rows.{first_of, NoneApplies, none, pass, FirstIs, all_from, none_applies, none_split}
+use Rattle.basics.specs.Rows.{first_of, NoneApplies, none, pass, FirstIs, all_from}
+use Rattle.basics.proofs.Rows.{none_applies, none_split}
 use Rattle.entries.specs.Sizes.{within}
 use Rattle.entries.specs.Phases.{is_idle}
 use Rattle.pool.specs.Pool.{next_of}

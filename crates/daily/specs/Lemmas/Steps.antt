@@ -12,7 +12,8 @@ use Rattle.machine.specs.declared.Answer.TheVariants.{Refused, Taken, Begun, Wor
 use Rattle.entries.specs.declared.Thread.{Thread}
 use Rattle.entries.specs.declared.Phase.{Phase}
 use Rattle.basics.specs.Tests.{ands, by_test}
-use Rattle.basics.specs.Rows.{FirstIs, first_from_lem}
+use Rattle.basics.specs.Rows.{FirstIs}
+use Rattle.basics.proofs.Rows.{first_from_lem}
 use Rattle.basics.specs.Counts.{bit, how_many, none_passed}
 use Rattle.entries.specs.Sizes.{within}
 use Rattle.entries.specs.Entries.{thread, idle_thread}

@@ -11,7 +11,7 @@ use Rattle.machine.specs.declared.Call.{Call}
 use Rattle.machine.specs.declared.Outcome.{Outcome}
 use Rattle.entries.specs.declared.Phase.{Phase}
 use Rattle.entries.specs.declared.Phase.TheVariants.{Idle, Loaded, Sweeping, Published, Draining, Look, Swap, SweepLook, SweepSwap}
-use Rattle.basics.specs.Rows.{first_some}
+use Rattle.basics.proofs.Rows.{first_some}
 use Rattle.entries.specs.Sizes.{positions}
 use Rattle.entries.specs.Entries.{with_handover}
 use Rattle.entries.specs.Phases.{is_idle, carried_by, returns_to, protecting, phase_in_range}

@@ -10,7 +10,8 @@ use Rattle.machine.specs.declared.Call.{Call}
 use Rattle.machine.specs.declared.Outcome.{Outcome}
 use Rattle.machine.specs.declared.Answer.TheVariants.{Refused}
 use Rattle.basics.specs.Tests.{clash}
-use Rattle.basics.specs.Rows.{all_from, NoneApplies, FirstIs, here, later, first_is, none_is, first_from_lem}
+use Rattle.basics.specs.Rows.{all_from, NoneApplies, FirstIs, here, later}
+use Rattle.basics.proofs.Rows.{first_is, none_is, first_from_lem}
 use Rattle.machine.specs.Answers.{numbers_of, numbers}
 use Rattle.machine.specs.Soundness.{sound}
 use Rattle.machine.specs.Refusals.{state_rows, field_rows, thread_rows, object_rows, call_rows, refusals, refusal_of}

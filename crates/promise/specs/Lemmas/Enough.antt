@@ -15,7 +15,8 @@ use Rattle.pool.specs.declared.Pool.{Pool}
 use Rattle.basics.specs.Tests.{by_test, ands}
 use Rattle.basics.specs.Counts.{bit, how_many_under, how_many_missing}
 use Rattle.basics.specs.Sums.{sum_zeros}
-use Rattle.basics.specs.Rows.{◌when◌, FirstIs, without, first_split, only_line}
+use Rattle.basics.specs.Rows.{◌when◌, FirstIs, without}
+use Rattle.basics.proofs.Rows.{first_split, only_line}
 use Rattle.entries.specs.Sizes.{in_range, positions}
 use Rattle.entries.specs.Phases.{is_idle, carried_by}
 use Rattle.entries.specs.PhaseFacts.{idle_carries}

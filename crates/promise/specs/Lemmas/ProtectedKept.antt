@@ -12,7 +12,7 @@ use Rattle.machine.specs.declared.Call.{Call}
 use Rattle.machine.specs.declared.Outcome.{Outcome}
 use Rattle.basics.specs.Counts.{bit, how_many, none_passed}
 use Rattle.basics.specs.Lists.{at_set}
-use Rattle.basics.specs.Rows.{first_from_lem}
+use Rattle.basics.proofs.Rows.{first_from_lem}
 use Rattle.entries.specs.Sizes.{positions}
 use Rattle.entries.specs.Entries.{empty_slot, with_hazard, with_handover}
 use Rattle.entries.specs.Phases.{protecting}

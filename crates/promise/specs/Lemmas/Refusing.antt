@@ -4,7 +4,8 @@ use Rattle.std.proofs.Common.{arith, ne_eqb}
 use Rattle.std.proofs.lemmas.Bool.{lt-leb}
 use Rattle.machine.specs.declared.State.{State}
 use Rattle.machine.specs.declared.Call.{Call}
-use Rattle.basics.specs.Rows.{FirstIs, first_from_lem}
+use Rattle.basics.specs.Rows.{FirstIs}
+use Rattle.basics.proofs.Rows.{first_from_lem}
 use Rattle.machine.specs.Refusals.{refusals}
 use Rattle.machine.specs.Accepted.{refusals_high}
 

@@ -10,7 +10,8 @@ use borrow.Author.Tests.{eqb-false, ne_eqb}
 use Rattle.machine.specs.declared.State.{State}
 use Rattle.machine.specs.Parts.{free_at}
 use Rattle.machine.specs.Soundness.{sound}
-use Rattle.basics.specs.Rows.{FirstIs, here, later, first_is, first_some}
+use Rattle.basics.specs.Rows.{FirstIs, here, later}
+use Rattle.basics.proofs.Rows.{first_is, first_some}
 use Rattle.basics.specs.Tests.{tested}
 use Rattle.machine.specs.Sound.{Sound, to_sound}
 use Rattle.laws.specs.OnePlace.{link_not_free, hand_not_free, carried_not_free, handover_not_free}

@@ -11,7 +11,7 @@ use Rattle.machine.specs.declared.Outcome.{Outcome}
 use Rattle.entries.specs.declared.Phase.{Phase}
 use Rattle.entries.specs.declared.Phase.TheVariants.{Loaded, Sweeping, Published}
 use Rattle.basics.specs.Tests.{clash}
-use Rattle.basics.specs.Rows.{first_from_lem}
+use Rattle.basics.proofs.Rows.{first_from_lem}
 use Rattle.entries.specs.Sizes.{positions}
 use Rattle.entries.specs.Entries.{empty_slot, with_handover}
 use Rattle.entries.specs.Phases.{phase_in_range}

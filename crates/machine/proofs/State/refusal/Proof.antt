@@ -4,7 +4,8 @@ use mathlib.Core.Bool.{true}
 use borrow.Author.Tests.{eq-eqb, ne_eqb}
 use borrow.Author.Rules.{rules}
 use Rattle.basics.specs.Tests.{refused, passed}
-use Rattle.basics.specs.Rows.{first_of, NoneApplies, all_from, none_applies, stops, goes_on}
+use Rattle.basics.specs.Rows.{first_of, NoneApplies, all_from}
+use Rattle.basics.proofs.Rows.{none_applies, stops, goes_on}
 use Rattle.machine.specs.Parts.{thread_at, slot_at, position_of}
 use Rattle.machine.specs.Soundness.{sound}
 use Rattle.machine.specs.Sound.{Ranged, to_sound, thread_eight, position_fits}
