@@ -14,7 +14,7 @@ pub const WILD: usize = 2;
 // Sensible calls, one thread for many on end.
 pub const LOYAL: usize = 3;
 
-#[derive(Drop)]
+#[derive(Clone, Copy)]
 pub struct Plan {
     pub seed: usize,
     pub threads: usize,
@@ -147,7 +147,7 @@ fn operation(seed: usize, full: bool) -> usize {
 }
 
 // What a call is drawn for: a thread, whether it is busy, whether its hand is full, and the sizes.
-#[derive(Drop)]
+#[derive(Clone, Copy)]
 struct Seen {
     thread: usize,
     busy: bool,

@@ -34,7 +34,7 @@ pub const LEAVES: usize = 11;
 pub const FREES: usize = 12;
 
 // By the kind: of threads that return to idle, and of those in a sweep or in its scan, which return to Published.
-#[derive(Drop)]
+#[derive(Clone, Copy)]
 pub struct Kinds {
     pub to_idle: Tally,
     pub to_published: Tally,

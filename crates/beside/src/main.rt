@@ -1,4 +1,5 @@
 // Two machines and a plain store, run beside each other on many schedules and compared.
+#![tactic(auto)]
 mod change;
 mod dice;
 mod draw;

@@ -43,7 +43,7 @@ fn counted(totals: Totals, s: State, w: Twin, waiting: usize) -> Totals {
 }
 
 // A call and what its thread was in the middle of, the answers to it, and whether the store was told of it and gave the same.
-#[derive(Drop)]
+#[derive(Clone, Copy)]
 struct Heard {
     order: Order,
     before: Task,

@@ -1,5 +1,5 @@
 // How often each of some numbers below 32 was seen.
-#[derive(Drop)]
+#[derive(Clone, Copy)]
 pub struct Tally {
     pub seen: [u32; 32],
 }

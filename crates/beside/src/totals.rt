@@ -4,7 +4,7 @@ use crate::tally::Tally;
 use crate::{kinds, tally};
 use plain::Said;
 
-#[derive(Drop)]
+#[derive(Clone, Copy)]
 pub struct Totals {
     // How often each answer and refusal was given, by its number, and each 3 by what it says was done.
     pub seen: Tally,

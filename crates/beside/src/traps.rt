@@ -6,7 +6,7 @@ use plain::Said;
 use twin::Twin;
 
 // A schedule and a call of it, both from 0; `there` is false where no schedule shows a difference.
-#[derive(Drop)]
+#[derive(Clone, Copy)]
 pub struct Shown {
     pub there: bool,
     pub schedule: usize,

@@ -2,7 +2,7 @@
 use crate::seen::{Seen, Tried};
 use crate::{fields, limits, order, reasons, seen};
 
-#[derive(Drop)]
+#[derive(Clone, Copy)]
 pub enum Table {
     Order,
     Fields,

@@ -6,7 +6,7 @@ use plain::Order;
 
 // `due` and `later` are one where no other applies, and 0 where the call is accepted. `variant` is one of eight: which field of
 // the call is wrong and how, or what the thread is doing.
-#[derive(Drop)]
+#[derive(Clone, Copy)]
 pub struct Case {
     pub due: usize,
     pub later: usize,

@@ -23,7 +23,7 @@ pub fn limit(size: usize, side: usize) -> usize {
 }
 
 // One size at one of the four, and the others at the lower or upper limit, by the bits of `others`.
-#[derive(Drop)]
+#[derive(Clone, Copy)]
 struct Sides {
     size: usize,
     side: usize,

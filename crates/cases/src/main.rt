@@ -1,5 +1,6 @@
 // Cases that document 01 names and that drawn schedules meet seldom or never: each is built entry by entry, put through both
 // machines, and held to what 01 asks for.
+#![tactic(auto)]
 mod all;
 mod case;
 mod fields;

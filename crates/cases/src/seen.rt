@@ -2,7 +2,7 @@
 pub const KEYS: usize = 160;
 
 // One number of a table: whether it is a case, and of one its key and whether what is due was seen.
-#[derive(Drop)]
+#[derive(Clone, Copy)]
 pub struct Tried {
     pub there: bool,
     pub key: usize,
@@ -26,7 +26,7 @@ pub fn under(key: usize, shown: bool) -> Tried {
 }
 
 // How many cases of each key were run, in how many what is due was seen, and in how many, of any key, it was not.
-#[derive(Drop)]
+#[derive(Clone, Copy)]
 pub struct Seen {
     pub tried: [u32; 160],
     pub seen: [u32; 160],

@@ -5,7 +5,7 @@ use machine::State;
 use plain::Order;
 
 // Sizes, and T × H.
-#[derive(Drop)]
+#[derive(Clone, Copy)]
 pub struct Setting {
     pub threads: usize,
     pub slots: usize,
@@ -157,7 +157,7 @@ pub fn carries(doing: usize) -> bool {
 
 // What the last thread is doing, whether its hand is full, how its last slot is (0 protected, 1 a hazard without a mark, 2
 // empty), whether no object is free, and whether the state is unsound for something that no other refusal looks at.
-#[derive(Drop)]
+#[derive(Clone, Copy)]
 pub struct Scene {
     pub doing: usize,
     pub full: bool,

@@ -20,7 +20,7 @@ pub fn uses(operation: usize, field: usize) -> bool {
 
 // What the lines look at, of a state and the thread and slot that a call names. A thread or slot beyond the sizes has an entry
 // as long as there is room: it is idle, its hand is empty, it is not protected. Where there is none it is so too.
-#[derive(Drop)]
+#[derive(Clone, Copy)]
 pub struct Facts {
     pub sound: bool,
     pub threads: usize,

@@ -5,7 +5,7 @@ use plain::{Order, Said};
 
 // What the state is, what the first machine answered, and whether checks, answers, next states and counts agree. Answers agree if
 // they are the same, and a 3 says what was done.
-#[derive(Drop)]
+#[derive(Clone, Copy)]
 pub struct Both {
     pub sound: bool,
     pub said: Said,

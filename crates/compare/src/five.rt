@@ -3,7 +3,7 @@ use crate::numbers;
 use machine::State;
 use twin::Twin;
 
-#[derive(Drop)]
+#[derive(Clone, Copy)]
 pub struct Five {
     pub free: usize,
     pub links: usize,

@@ -1,4 +1,5 @@
 // Whole schedules through the machine, for a program in another language that links this library: bench/ times it.
+#![tactic(auto)]
 mod mixing;
 
 use machine::{State, Verdict};

@@ -1,11 +1,13 @@
 // What a state is made of: the sizes, a thread with what it is in the middle of, a slot.
+#![tactic(auto)]
+
 mod phases;
 mod ranges;
 
 pub use phases::{carried, is_idle, looking, returns_to, scan_position, swapping};
 pub use ranges::{in_range, positions, sizes_good, within};
 
-#[derive(Drop)]
+#[derive(Clone, Copy)]
 pub struct Sizes {
     pub threads: u8,
     pub slots: u8,
@@ -15,7 +17,7 @@ pub struct Sizes {
 
 // What a thread is in the middle of. After a publication it sweeps its slot's handover, and a scan of what stood there remembers the slot
 // and the link of the protect that it returns to.
-#[derive(Drop)]
+#[derive(Clone, Copy)]
 pub enum Phase {
     Idle,
     Loaded {
@@ -56,13 +58,13 @@ pub enum Phase {
     },
 }
 
-#[derive(Drop)]
+#[derive(Clone, Copy)]
 pub struct Thread {
     pub hand: u8,
     pub phase: Phase,
 }
 
-#[derive(Drop)]
+#[derive(Clone, Copy)]
 pub struct Slot {
     pub hazard: u8,
     pub mark: bool,

@@ -1,4 +1,5 @@
 // Runs the schedule on standard input and writes its lines to standard output.
+#![tactic(auto)]
 use libc::{STDIN_FILENO, STDOUT_FILENO};
 
 fn main() {

@@ -12,7 +12,7 @@ use text::bytes::put_bytes;
 use text::line::put_line;
 
 // An answer as numbers.
-#[derive(Drop)]
+#[derive(Clone, Copy)]
 pub(crate) struct Numbers {
     pub number: u8,
     pub a: u32,

@@ -1,4 +1,5 @@
 // The record machine: the state, start, the soundness check, one step, and the count of the five places.
+#![tactic(auto)]
 mod calls;
 mod count;
 mod fresh;
@@ -12,7 +13,7 @@ use entries::{Sizes, Slot, Thread};
 pub use fresh::start;
 use pool::Pool;
 
-#[derive(Drop)]
+#[derive(Clone, Copy)]
 pub struct State {
     pub sizes: Sizes,
     pub links: [u8; 16],
@@ -22,7 +23,7 @@ pub struct State {
     pub tags: [u32; 240],
 }
 
-#[derive(Drop)]
+#[derive(Clone, Copy)]
 pub struct Call {
     pub thread: u8,
     pub operation: u8,
@@ -31,7 +32,7 @@ pub struct Call {
     pub tag: u32,
 }
 
-#[derive(Drop)]
+#[derive(Clone, Copy)]
 pub enum Answer {
     Refused(u8),
     Taken(u8),
@@ -48,7 +49,7 @@ pub enum Answer {
 }
 
 // What a step that is answered 3 did, and the position concerned: the slot's own, or the one looked at or swapped at.
-#[derive(Drop)]
+#[derive(Clone, Copy)]
 pub enum Work {
     Publication(u8),
     FailedRead(u8),
@@ -60,26 +61,26 @@ pub enum Work {
 }
 
 // "Each call hands the next state back."
-#[derive(Drop)]
+#[derive(Clone, Copy)]
 pub struct Outcome {
     pub state: State,
     pub answer: Answer,
 }
 
 // What start and the count of the five places answer: good, or 01's refusal number.
-#[derive(Drop)]
+#[derive(Clone, Copy)]
 pub enum Verdict {
     Good,
     Refused(u8),
 }
 
-#[derive(Drop)]
+#[derive(Clone, Copy)]
 pub struct Started {
     pub state: State,
     pub verdict: Verdict,
 }
 
-#[derive(Drop)]
+#[derive(Clone, Copy)]
 pub struct Places {
     pub free: u8,
     pub links: u8,
@@ -88,7 +89,7 @@ pub struct Places {
     pub carried: u8,
 }
 
-#[derive(Drop)]
+#[derive(Clone, Copy)]
 pub struct Counted {
     pub places: Places,
     pub verdict: Verdict,

@@ -1,5 +1,6 @@
 // A schedule as text on standard input, its records on standard output. Where the text is wrong it writes no records, and says on standard
 // error which line is wrong and why.
+#![tactic(auto)]
 mod say;
 
 ghost use Rattle.std.specs.Prelude.{◌≡◌, length};

@@ -3,7 +3,7 @@ use crate::task::Task;
 use crate::{num, task};
 
 // Object o stands at o - 1 in `free` and `tag`.
-#[derive(Drop)]
+#[derive(Clone, Copy)]
 pub struct Raw {
     pub threads: usize,
     pub slots: usize,
@@ -97,7 +97,7 @@ fn carried(tasks: [Task; 8], object: usize, before: usize) -> usize {
 }
 
 // What a task's numbers are held to.
-#[derive(Drop)]
+#[derive(Clone, Copy)]
 struct Most {
     slots: usize,
     links: usize,
@@ -134,7 +134,7 @@ fn task_fits(task: Task, most: Most) -> bool {
 }
 
 // The places in which an object can be, but for the free ones.
-#[derive(Drop)]
+#[derive(Clone, Copy)]
 struct Places {
     link: [u8; 16],
     hand: [u8; 8],

@@ -14,7 +14,7 @@ pub const SWAP: usize = 5;
 // Fields that a task does not use are 0. `seen` is the object that Loaded, Look or Swap names. `back` is set where request 2 has
 // the thread return to Published: in the drain that follows a publication, which is called a sweep, and in the scan that comes
 // of it. Their slot and link are those of the protect.
-#[derive(Drop)]
+#[derive(Clone, Copy)]
 pub struct Task {
     pub doing: usize,
     pub back: bool,
@@ -24,7 +24,7 @@ pub struct Task {
     pub position: usize,
 }
 
-#[derive(Drop)]
+#[derive(Clone, Copy)]
 pub struct Order {
     pub thread: usize,
     pub operation: usize,
@@ -34,7 +34,7 @@ pub struct Order {
 }
 
 // An answer or refusal by 01's number, with its two values.
-#[derive(Drop)]
+#[derive(Clone, Copy)]
 pub struct Said {
     pub number: usize,
     pub a: usize,

@@ -1,5 +1,6 @@
 // The pool: which objects are free, and which is handed out next. Nothing above it sees how that is kept, but that the soundness check lends
 // its marks.
+#![tactic(auto)]
 mod marks;
 
 ghost use Rattle.std.specs.Prelude.{◌≡◌, false, not, ◌&&◌, ◌||◌, ◌≤◌, get_or, ltb};
@@ -9,7 +10,7 @@ ghost use Rattle.pool.specs.Pool.{pool_of, is_free, next_of, fresh_pool, taken_o
 use marks::{are_on, each_once, first_marked, first_on, off_from};
 
 // A mark for each object: object 1 has the first.
-#[derive(Drop)]
+#[derive(Clone, Copy)]
 pub struct Pool {
     pub marks: [bool; 240],
 }

@@ -1,1 +1,2 @@
 // No code: demand 3 is stated in specs/Promise.antt, and proved.
+#![tactic(auto)]

@@ -1,4 +1,5 @@
 // Why an object is still kept: the one place that it is in, and the first slot in scan order that names it.
+#![tactic(auto)]
 mod explain;
 mod hazards;
 mod places;
@@ -6,7 +7,7 @@ mod places;
 pub use explain::why;
 
 // How the slot in whose handover an object was left stands to that object.
-#[derive(Drop)]
+#[derive(Clone, Copy)]
 pub enum Guard {
     // its hazard is the object, and the mark is on
     Protected,
@@ -17,7 +18,7 @@ pub enum Guard {
 }
 
 // The one reason for which an object that is not free is kept.
-#[derive(Drop)]
+#[derive(Clone, Copy)]
 pub enum Reason {
     Link { link: u8 },
     Hand { thread: u8 },
@@ -26,13 +27,13 @@ pub enum Reason {
 }
 
 // The first position in scan order that holds an object as its hazard, or none.
-#[derive(Drop)]
+#[derive(Clone, Copy)]
 pub enum Hazard {
     At(u8),
     Nowhere,
 }
 
-#[derive(Drop)]
+#[derive(Clone, Copy)]
 pub enum Explained {
     Kept { reason: Reason, hazard: Hazard },
     Refused(u8),

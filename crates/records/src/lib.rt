@@ -1,10 +1,11 @@
 // Schedule records: ten bytes each, read from the front of an input and written to the front of a buffer.
 // The types stand here; `reading` reads a record and gives the rest of the input, `writing` writes one.
+#![tactic(auto)]
 pub mod reading;
 pub mod writing;
 
 // What a sizes record says.
-#[derive(Drop)]
+#[derive(Clone, Copy)]
 pub struct SizesRecord {
     pub threads: u8,
     pub slots: u8,
@@ -13,7 +14,7 @@ pub struct SizesRecord {
 }
 
 // What a step record says. Its values are not judged here.
-#[derive(Drop)]
+#[derive(Clone, Copy)]
 pub struct StepRecord {
     pub thread: u8,
     pub operation: u8,
@@ -23,7 +24,7 @@ pub struct StepRecord {
 }
 
 // What reading the front of an input finds.
-#[derive(Drop)]
+#[derive(Clone, Copy)]
 pub enum Read {
     Sizes(SizesRecord),
     Step(StepRecord),
@@ -32,7 +33,7 @@ pub enum Read {
 }
 
 // What writing a record answers.
-#[derive(Drop)]
+#[derive(Clone, Copy)]
 pub enum Written {
     Done,
     Refused(u8),

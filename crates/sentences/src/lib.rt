@@ -1,4 +1,5 @@
 // Why each object is still here when the run of a schedule has ended, in words.
+#![tactic(auto)]
 mod ending;
 mod first;
 mod objects;

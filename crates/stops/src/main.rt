@@ -1,6 +1,7 @@
 // Runs inputs that end in each way that document 01 names, and prints of each how many lines its text has and the last of them.
 // `stdout` was not taken from this program: each case was built again as bytes from the table of records in document 01, and its lines were
 // worked out by a second short program that knows that page's rules for reading, for stopping and for take, and nothing of the code here.
+#![tactic(auto)]
 mod building;
 mod showing;
 

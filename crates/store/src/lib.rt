@@ -1,10 +1,11 @@
 // 01's plain store: "It keeps links, hands and slots, and makes a new record at each take, never discarding one."
 // A record is the number of its take, from 1; 0 is no record. A schedule run beside it has at most 255 takes.
+#![tactic(auto)]
 use plain::{Order, Raw, Said};
 
 // `last` has for each object "the take that last handed it out", and `slot_of` and `link_of` what each thread's last
 // protect named, which is listed only when it ends. `waiting` is 01's "accepted retires less Freed answers".
-#[derive(Drop)]
+#[derive(Clone, Copy)]
 pub struct Store {
     pub slots: usize,
     pub link: [u8; 16],
@@ -19,7 +20,7 @@ pub struct Store {
 }
 
 // The store after a call of the machine, and whether it gave the same answer.
-#[derive(Drop)]
+#[derive(Clone, Copy)]
 pub struct Told {
     pub store: Store,
     pub listed: bool,

@@ -3,7 +3,7 @@ use plain::{Said, Task};
 
 // `trap` is 0, or the number of the trap that this twin falls into (trap.rt). Object o has its place at o and its tag at
 // o - 1. What Look and Swap carry is not read off the task: it is the object whose place is "carried by this thread".
-#[derive(Drop)]
+#[derive(Clone, Copy)]
 pub struct Twin {
     pub trap: usize,
     pub threads: usize,
@@ -17,7 +17,7 @@ pub struct Twin {
     pub task: [Task; 8],
 }
 
-#[derive(Drop)]
+#[derive(Clone, Copy)]
 pub struct Stepped {
     pub twin: Twin,
     pub said: Said,

@@ -1,4 +1,5 @@
 // Runs the schedule on standard input, writes its lines to standard output, and then why each object is still here.
+#![tactic(auto)]
 use libc::{STDIN_FILENO, STDOUT_FILENO};
 
 fn main() {

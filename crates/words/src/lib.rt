@@ -1,12 +1,13 @@
 // Finds the words of a schedule that is written as text, and reads one word by itself. The types stand here.
 // `finding` finds the words of a line, `numbers` and `names` read one word, and `fields` says what a word means in its place.
+#![tactic(auto)]
 pub mod fields;
 pub mod finding;
 mod names;
 pub mod numbers;
 
 // What a byte is to a line.
-#[derive(Drop)]
+#[derive(Clone, Copy)]
 pub(crate) enum Kind {
     Word,
     Blank,
@@ -16,7 +17,7 @@ pub(crate) enum Kind {
 }
 
 // Bytes that are taken together.
-#[derive(Drop)]
+#[derive(Clone, Copy)]
 pub enum Run {
     Word,
     Blanks,
@@ -25,14 +26,14 @@ pub enum Run {
 }
 
 // Where a word stands in the text: its bytes are those from `from` up to `to`. Where the line has no more words, it has no bytes.
-#[derive(Drop)]
+#[derive(Clone, Copy)]
 pub struct Word {
     pub from: usize,
     pub to: usize,
 }
 
 // What can be wrong with a line. The first four are found at one word, the last three by those who read whole lines.
-#[derive(Drop)]
+#[derive(Clone, Copy)]
 pub enum Why {
     // a field that must be there is not
     Missing,
@@ -51,14 +52,14 @@ pub enum Why {
 }
 
 // What a word says where a number is wanted.
-#[derive(Drop)]
+#[derive(Clone, Copy)]
 pub enum Number {
     Value(u32),
     Bad(Why),
 }
 
 // What a word says where a byte is wanted.
-#[derive(Drop)]
+#[derive(Clone, Copy)]
 pub enum Byte {
     Value(u8),
     Bad(Why),
