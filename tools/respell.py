@@ -14,8 +14,8 @@ import re
 WORD = re.compile(r"(?<![\w'·-])[a-z][\w'·]*(?:-[\w'·]+)*(?![\w'-])")
 USE = re.compile(r"^\s*(?:ghost )?use ([^\n{;]*?)(?:\.\{(.*?)\})?(?: as \S+?)?;?$", re.M | re.S)
 
-# What the kit's script brought to one spelling that two names of ours had: the lemma makes room for the function.
-APART = {"taken_out": "taken_out_lem", "last_line": "last_line_lem"}
+# What the kit's script brought to the spelling that a function of ours now gets: the lemma makes room for the function.
+APART = {"takenOut": ("taken_out", "taken_out_lem"), "lastLine": ("last_line", "last_line_lem")}
 # Made by the kit for each function, and named in the files of proofs: never ours.
 MADE = re.compile(r"^(returns|loop|add|sub|mul|index|bounds|overflow|decreases|invariant)-")
 
@@ -94,12 +94,13 @@ def turn_rt(text, table):
 def main():
     table = names()
     lemmas = set(spec_files())
+    apart = dict(pair for old, pair in APART.items() if old in table)
     files = glob.glob("crates/*/specs/**/*.antt", recursive=True) + glob.glob("crates/*/proofs/**/*.antt", recursive=True)
     files += glob.glob("crates/*/src/**/*.rt", recursive=True)
     for file in sorted(files):
         text = open(file, encoding="utf-8").read()
         if file.endswith(".antt"):
-            new = turn_antt(text, APART, False) if file in lemmas else text
+            new = turn_antt(text, apart, False) if file in lemmas else text
             new = turn_antt(new, table, file not in lemmas)
         else:
             new = turn_rt(text, table)

@@ -11,7 +11,7 @@ use Rattle.machine.specs.Parts.{slot_at, hand_of, phase_of, position_of, free_at
 use Rattle.basics.specs.Under.{all_under}
 use Rattle.entries.specs.Entries.{with_hazard, with_handover}
 use Rattle.entries.specs.Phases.{returns_to, looking, swapping}
-use Rattle.pool.specs.Pool.{next_of, taken_out_lem, put_back}
+use Rattle.pool.specs.Pool.{next_of, taken_out, put_back}
 use Rattle.machine.specs.Calls.{outcome, take_of, protect_of}
 use Rattle.machine.specs.Step.{done_of}
 use Rattle.edges.specs.Rules.{Change, when_draining, goes_on, at_call, at_loaded, at_look, at_swap}
@@ -110,7 +110,7 @@ parked s t =
     let n = s.sizes.objects in
     let last = s.sizes.threads - 1 in
     cond (free_at s n && eqb (hand_of s last) 0 && not (eqb t last))
-    (with_thread (with_pool s (taken_out_lem s.pool n) n 0) last n (phase_of s last))
+    (with_thread (with_pool s (taken_out s.pool n) n 0) last n (phase_of s last))
     s
 
 -- It never hands object N out, and parks it in a hand.

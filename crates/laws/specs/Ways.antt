@@ -13,7 +13,7 @@ use Rattle.entries.specs.Sizes.{positions}
 use Rattle.entries.specs.Entries.{with_hazard, with_handover}
 use Rattle.entries.specs.Phases.{is_idle, carried_by, protecting, phase_in_range}
 use Rattle.entries.specs.PhaseFacts.{AtLook, AtSwap}
-use Rattle.pool.specs.Pool.{next_of, taken_out_lem, put_back}
+use Rattle.pool.specs.Pool.{next_of, taken_out, put_back}
 use Rattle.machine.specs.Parts.{link_at, hand_of, phase_of, slot_at, position_of, free_at, tag_of, with_link, with_thread, with_slot, with_pool, become}
 use Rattle.machine.specs.Sound.{Sound}
 use Rattle.machine.specs.Calls.{outcome, expected}
@@ -64,7 +64,7 @@ pub data Way (s : State) (c : Call) : Outcome → Type 0 where
   takes : {o : ℕ} → Does s c 1 → hand s c ≡ 0 → next_of s.pool ≡ o → free_at s o ≡ true
       → Way s c
       (outcome
-      (with_thread (with_pool s (taken_out_lem s.pool o) o c.tag) c.thread o (phase s c))
+      (with_thread (with_pool s (taken_out s.pool o) o c.tag) c.thread o (phase s c))
       (Taken o))
   -- protect: the link is read
   begins : {o : ℕ} → Does s c 2 → is_idle (phase s c) ≡ true → c.slot < s.sizes.slots → c.link < s.sizes.links

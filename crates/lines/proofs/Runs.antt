@@ -16,7 +16,7 @@ use Rattle.schedule.specs.Asked.{found_at, found_from, found_of, found_in}
 use Rattle.schedule.specs.Promise.{asking_finds}
 use Rattle.schedule.specs.Turns.{found_next, good_says, refused_says}
 use Rattle.lines.specs.Line.{Line, bytes_of, text}
-use Rattle.lines.specs.Run.{sizes_line, step_line, end_line, stop_line, last_line_lem, lines_from, lines_in, lines_of, text_of, lines_found}
+use Rattle.lines.specs.Run.{sizes_line, step_line, end_line, stop_line, last_line, lines_from, lines_in, lines_of, text_of, lines_found}
 
 one_line : (line : Line) → text (line ∷ []) ≡ bytes_of line
 unfolding text
@@ -34,13 +34,13 @@ module _ (steps : ℕ) (s : State) (left : List ℕ) (l : steps ≤ 6000) where
   pub end_text :
       next_of steps left ≡ next.End →
       text (lines_found steps s (found_from (6001 - steps) steps left)) ≡ bytes_of (end_line steps (count_of s).places)
-  unfolding lines_found lines_from found_at last_line_lem
+  unfolding lines_found lines_from found_at last_line
   end_text e = rw (found_next steps left next.End e l) (one_line (end_line steps (count_of s).places))
 
   pub stop_text :
       (number : ℕ) → next_of steps left ≡ next.Stop number →
       text (lines_found steps s (found_from (6001 - steps) steps left)) ≡ bytes_of (stop_line (steps + 1) number)
-  unfolding lines_found lines_from found_at last_line_lem
+  unfolding lines_found lines_from found_at last_line
   stop_text number e = rw (found_next steps left (next.Stop number) e l) (one_line (stop_line (steps + 1) number))
 
 -- an input that opens a machine, and one that does not

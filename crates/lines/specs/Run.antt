@@ -32,13 +32,13 @@ unfoldable pub stop_line : ℕ → ℕ → Line
 stop_line before number = stop (before ∷ number ∷ [])
 
 -- The line with which a run ends after so many steps. The sizes record and the steps are the good records before a stop.
-unfoldable pub last_line_lem : ℕ → State → input.Ending → Line
-last_line_lem steps s input.ended = end_line steps (count_of s).places
-last_line_lem steps s (input.stopped number) = stop_line (steps + 1) number
+unfoldable pub last_line : ℕ → State → input.Ending → Line
+last_line steps s input.ended = end_line steps (count_of s).places
+last_line steps s (input.stopped number) = stop_line (steps + 1) number
 
 -- The lines of these calls from a state on, after so many steps. "A refused step prints its line and the run goes on."
 unfoldable pub lines_from : ℕ → State → List Call → input.Ending → List Line
-lines_from steps s [] ending = last_line_lem steps s ending ∷ []
+lines_from steps s [] ending = last_line steps s ending ∷ []
 lines_from steps s (c ∷ calls) ending =
     let done = step_of s c in
     step_line (steps + 1) c done.answer ∷ lines_from (steps + 1) done.state calls ending

@@ -6,7 +6,7 @@ use Rattle.machine.specs.declared.Answer.{Answer}
 use Rattle.machine.specs.declared.Answer.TheVariants.{Taken, Begun, Swapped, Moved, Tag}
 use Rattle.entries.specs.declared.Phase.TheVariants.{Loaded, Draining, Look}
 use Rattle.entries.specs.Entries.{with_hazard}
-use Rattle.pool.specs.Pool.{next_of, taken_out_lem}
+use Rattle.pool.specs.Pool.{next_of, taken_out}
 use Rattle.machine.specs.Parts.{link_at, hand_of, phase_of, slot_at, position_of, tag_of, with_link, with_thread, with_slot, with_pool, become}
 
 abbrev pub outcome : State → Answer → Outcome
@@ -16,7 +16,7 @@ outcome s a = record { state = s; answer = a }
 unfoldable pub take_of : State → ℕ → ℕ → Outcome
 take_of s t tag =
     let object = next_of s.pool in
-    let taken = with_pool s (taken_out_lem s.pool object) object tag in
+    let taken = with_pool s (taken_out s.pool object) object tag in
     outcome (with_thread taken t object (phase_of s t)) (Taken object)
 
 -- protect: "read the link; become Loaded", Begun (object read or 0, 0)

@@ -6,7 +6,7 @@ use Rattle.basics.specs.Rows.{first_of}
 use Rattle.entries.specs.Sizes.{in_range, all_zero}
 use Rattle.entries.specs.Phases.{is_idle, carried_by, scans_at, returns_to, looking, swapping, phase_in_range}
 use Rattle.entries.specs.Entries.{sizes_good, link_good, thread_in_range, thread_empty, thread_good, slot_in_range, slot_empty, slot_good, tag_good}
-use Rattle.pool.specs.Pool.{is_free, first_on, next_of, marked, fresh_pool, taken_out_lem, put_back, free_count, pool_good}
+use Rattle.pool.specs.Pool.{is_free, first_on, next_of, marked, fresh_pool, taken_out, put_back, free_count, pool_good}
 use Rattle.machine.specs.Soundness.{shaped, places_holding, sound}
 use Rattle.machine.specs.Fresh.{fresh_of, blank, start_of}
 use Rattle.machine.specs.Calls.{take_of, protect_of, expected, swap_of, read_of, retire_of, clear_of}
@@ -17,7 +17,7 @@ use Rattle.machine.specs.Step.{done_of, step_of}
 use Rattle.machine.specs.Count.{five_places, count_of}
 
 unfoldable pub pools_compute : Unit {0}
-unfolding is_free first_on next_of marked fresh_pool taken_out_lem put_back free_count pool_good
+unfolding is_free first_on next_of marked fresh_pool taken_out put_back free_count pool_good
 pools_compute = tt
 
 -- the soundness check, start and the count

@@ -33,9 +33,9 @@ fresh_pool n = pool_of (marked (cond (leb n 240) n 240))
 
 -- the object is free no more
 
-unfoldable pub taken_out_lem : Pool → ℕ → Pool
-taken_out_lem pool zero = pool
-taken_out_lem pool (suc k) = pool_of (set pool.marks k false)
+unfoldable pub taken_out : Pool → ℕ → Pool
+taken_out pool zero = pool
+taken_out pool (suc k) = pool_of (set pool.marks k false)
 
 -- the object is free again
 

@@ -3,7 +3,7 @@ use Rattle.std.specs.Prelude.{ℕ, suc, ◌<◌, ◌≤◌, ◌≡◌, Bool, tru
 use Rattle.pool.specs.declared.Pool.{Pool}
 use Rattle.basics.specs.Counts.{bit}
 use Rattle.basics.specs.Sums.{sum_to}
-use Rattle.pool.specs.Pool.{is_free, next_of, fresh_pool, taken_out_lem, put_back, free_count, pool_good}
+use Rattle.pool.specs.Pool.{is_free, next_of, fresh_pool, taken_out, put_back, free_count, pool_good}
 use Rattle.pool.specs.Lemmas.Marks as marks
 use Rattle.pool.specs.Lemmas.Next as next
 
@@ -32,7 +32,7 @@ none_is_free = next.none_is_free
 
 -- A free object is taken out,
 pub taken_out_lem : (n : ℕ) (pool : Pool) → n ≤ 240 → pool_good n pool ≡ true → (o : ℕ) → is_free pool o ≡ true
-    → Changed n pool (taken_out_lem pool o) o false
+    → Changed n pool (taken_out pool o) o false
 taken_out_lem n pool few good o free =
     record {
       good = marks.out_good n pool good o;

@@ -5,7 +5,7 @@ use Rattle.basics.specs.Counts.{bit, how_many, count_under}
 use Rattle.basics.specs.Functions.{allowed_once}
 use Rattle.basics.specs.Under.{all_under}
 use Rattle.pool.specs.declared.Pool.{Pool}
-use Rattle.pool.specs.Pool.{pool_of, is_free, next_of, fresh_pool, taken_out_lem, put_back, free_count, each_once}
+use Rattle.pool.specs.Pool.{pool_of, is_free, next_of, fresh_pool, taken_out, put_back, free_count, each_once}
 use Rattle.entries.specs.declared.Sizes.{Sizes}
 use Rattle.entries.specs.declared.Thread.{Thread}
 use Rattle.entries.specs.declared.Slot.{Slot}
@@ -175,7 +175,7 @@ next_once = allowed_once _
 pub is_free_once : (pool : Pool) → Once (is_free pool)
 is_free_once pool = allowed_once _
 
-pub take_out_once : (pool : Pool) → Once (taken_out_lem pool)
+pub take_out_once : (pool : Pool) → Once (taken_out pool)
 take_out_once pool = allowed_once _
 
 pub put_back_once : (pool : Pool) → Once (put_back pool)

@@ -35,11 +35,11 @@ linked = taken ++ call 0 3 255 0 0 ∷ []
 abbrev protected : List Call
 protected = linked ++ (call 1 2 0 0 0 ∷ on 1 ∷ on 1 ∷ on 1 ∷ [])
 
-abbrev taken_out_lem : List Call
-taken_out_lem = protected ++ (call 0 2 0 0 0 ∷ on 0 ∷ on 0 ∷ on 0 ∷ call 0 3 0 0 0 ∷ [])
+abbrev taken_out : List Call
+taken_out = protected ++ (call 0 2 0 0 0 ∷ on 0 ∷ on 0 ∷ on 0 ∷ call 0 3 0 0 0 ∷ [])
 
 abbrev retired : List Call
-retired = taken_out_lem ++ (call 0 6 0 0 0 ∷ on 0 ∷ call 0 5 0 0 0 ∷ [])
+retired = taken_out ++ (call 0 6 0 0 0 ∷ on 0 ∷ call 0 5 0 0 0 ∷ [])
 
 abbrev left : List Call
 left = retired ++ (on 0 ∷ on 0 ∷ on 0 ∷ [])
@@ -76,7 +76,7 @@ rows_of machine =
     -- still in link 0, and thread 1's slot, position 1, has it
     row protected 1 (numbers 1 0 0 1 1) ∷
     -- in thread 0's hand; both slots have it, and position 0 is the first
-    row taken_out_lem 1 (numbers 2 0 0 1 0) ∷
+    row taken_out 1 (numbers 2 0 0 1 0) ∷
     -- carried by thread 0, its scan at position 0
     row retired 1 (numbers 3 0 0 1 1) ∷
     -- it looked at position 0, and then at position 1, where it will swap

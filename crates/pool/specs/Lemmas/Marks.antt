@@ -14,7 +14,7 @@ use Rattle.basics.specs.Counts.{bit}
 use Rattle.basics.specs.Under.{all_under, under_at, under_all}
 use Rattle.basics.specs.Lists.{Each, each_set, all_same}
 use Rattle.basics.specs.Sums.{sum_to, sum_same, sum_marks}
-use Rattle.pool.specs.Pool.{is_free, marked, fresh_pool, taken_out_lem, put_back, free_count, pool_good, pool_of}
+use Rattle.pool.specs.Pool.{is_free, marked, fresh_pool, taken_out, put_back, free_count, pool_good, pool_of}
 
 -- a mark beyond n is off
 abbrev mark_good : ℕ → ℕ → Bool → Bool
@@ -121,8 +121,8 @@ or_off : (b : Bool) → (b || not false) ≡ true
 or_off true = refl
 or_off false = refl
 
-pub out_good : (n : ℕ) (pool : Pool) → pool_good n pool ≡ true → (o : ℕ) → pool_good n (taken_out_lem pool o) ≡ true
-unfolding taken_out_lem
+pub out_good : (n : ℕ) (pool : Pool) → pool_good n pool ≡ true → (o : ℕ) → pool_good n (taken_out pool o) ≡ true
+unfolding taken_out
 out_good n pool h zero = h
 out_good n pool h (suc k) =
     let g = to_good n pool h in
@@ -130,16 +130,16 @@ out_good n pool h (suc k) =
     (λ inside. from_good n _ (stored n pool g k false (ltb-true k 240 inside) (or_off (ltb k n))))
     (λ past. from_good n _ (beyond_240 n pool g k false (ltb-false k 240 past)))
 
-pub out_this : (n : ℕ) (pool : Pool) → n ≤ 240 → pool_good n pool ≡ true → (o : ℕ) → is_free pool o ≡ true → is_free (taken_out_lem pool o) o ≡ false
-unfolding taken_out_lem is_free
+pub out_this : (n : ℕ) (pool : Pool) → n ≤ 240 → pool_good n pool ≡ true → (o : ℕ) → is_free pool o ≡ true → is_free (taken_out pool o) o ≡ false
+unfolding taken_out is_free
 out_this n pool few h zero free = refl
 out_this n pool few h (suc k) free =
     let g = to_good n pool h in
     let object = free_is_object n pool h (suc k) free in
     get_or-set_same pool.marks k false false (rw g.long (omega arith))
 
-pub out_others : (pool : Pool) (o x : ℕ) → (x ≡ o → ⊥) → is_free (taken_out_lem pool o) x ≡ is_free pool x
-unfolding taken_out_lem is_free
+pub out_others : (pool : Pool) (o x : ℕ) → (x ≡ o → ⊥) → is_free (taken_out pool o) x ≡ is_free pool x
+unfolding taken_out is_free
 out_others pool zero x ne = refl
 out_others pool (suc k) zero ne = refl
 out_others pool (suc k) (suc j) ne = get_or-set_other pool.marks k j false false (λ e. ne (ap suc e))
@@ -192,8 +192,8 @@ module _ (pool : Pool) (o : ℕ) where
       sym (get_or-eq_default pool.marks false (rw long (omega arith))) ∙ free_at_lem (omega arith)
 
 module _ (pool : Pool) where
-  pub out_at : (o : ℕ) → 0 < o → pool_of (set pool.marks (o - 1) false) ≡ taken_out_lem pool o
-  unfolding taken_out_lem
+  pub out_at : (o : ℕ) → 0 < o → pool_of (set pool.marks (o - 1) false) ≡ taken_out pool o
+  unfolding taken_out
   out_at zero some = absurd (omega arith)
   out_at (suc k) some = let e : suc k - 1 ≡ k = omega arith in rw e
 
@@ -205,7 +205,7 @@ module _ (pool : Pool) where
   stored_past : (o : ℕ) (mark : Bool) → length pool.marks ≡ 240 → 240 < o → pool ≡ pool_of (set pool.marks (o - 1) mark)
   stored_past o mark long past = ap pool_of (sym (set_out pool.marks (o - 1) mark (rw long (omega arith))))
 
-  pub out_past : (o : ℕ) → length pool.marks ≡ 240 → 240 < o → pool ≡ taken_out_lem pool o
+  pub out_past : (o : ℕ) → length pool.marks ≡ 240 → 240 < o → pool ≡ taken_out pool o
   out_past o long past = stored_past o false long past ∙ out_at o (omega arith)
 
   pub back_past : (o : ℕ) → length pool.marks ≡ 240 → 240 < o → pool ≡ put_back pool o

@@ -13,13 +13,13 @@ use Rattle.promise.specs.History.{history_by, state_by, history, state_after}
 use Rattle.promise.specs.Run.{events, state}
 use Rattle.promise.specs.Moments.{always_sound}
 use Rattle.schedule.specs.Input.{Ending, ended, stopped, Input, run, no_run, input_of}
-use Rattle.lines.specs.Run.{sizes_line, step_line, end_line, stop_line, last_line_lem, lines_from, lines_in, lines_of}
+use Rattle.lines.specs.Run.{sizes_line, step_line, end_line, stop_line, last_line, lines_from, lines_in, lines_of}
 use Rattle.printed.specs.Printed.{event_line, event_lines, ending_line, lines_of_run, lines_of_input}
 use Rattle.printed.specs.Lemmas.Ranged.{in_range_lem}
 
 from : (steps : ℕ) (s : State) (calls : List Call) (ending : Ending) →
     lines_from steps s calls ending ≡
-    event_lines (steps + 1) (history s calls) ++ last_line_lem (steps + length calls) (state_after s calls) ending ∷ []
+    event_lines (steps + 1) (history s calls) ++ last_line (steps + length calls) (state_after s calls) ending ∷ []
 unfolding lines_from event_lines history_by state_by step_line event_line
 from steps s [] ending =
     let none : steps + 0 ≡ steps = omega arith in
@@ -29,8 +29,8 @@ from steps s (c ∷ calls) ending =
     rw (from (steps + 1) (step_of s c).state calls ending, one)
 
 -- the last line counts the places of a sound state, and any state of a run is one
-last_line_lem : (z : Sizes) → in_range z ≡ true → (calls : List Call) (ending : Ending) → last_line_lem (length calls) (state z calls) ending ≡ ending_line step_of z calls ending
-unfolding last_line_lem end_line stop_line ending_line count_of
+last_line_lem : (z : Sizes) → in_range z ≡ true → (calls : List Call) (ending : Ending) → last_line (length calls) (state z calls) ending ≡ ending_line step_of z calls ending
+unfolding last_line end_line stop_line ending_line count_of
 last_line_lem z good calls ended = rw (from_sound (state z calls) (always_sound z good calls))
 last_line_lem z good calls (stopped number) = refl
 

@@ -21,7 +21,7 @@ use Rattle.entries.specs.Entries.{idle_thread, empty_slot, with_hazard, with_han
 use Rattle.entries.specs.Facts.{bounds}
 use Rattle.entries.specs.Phases.{carried_by}
 use Rattle.entries.specs.PhaseFacts.{idle_carries}
-use Rattle.pool.specs.Pool.{taken_out_lem, put_back}
+use Rattle.pool.specs.Pool.{taken_out, put_back}
 use Rattle.pool.specs.Promise.{put_back_lem}
 use Rattle.machine.specs.Parts.{slot_at, phase_of, hand_of, free_at, with_thread, with_slot, with_link, with_pool}
 use Rattle.machine.specs.Sound.{Sound, limits, thread_long, slot_long, its_position}
@@ -208,7 +208,7 @@ module _ (s : State) (c : Call) (m : Memory) (r : Reading) (store : Store) (give
       rw (not_freed, not_begun, both_off (eqb c.operation 5)) g
   given_step (takes {o = o} d empty next free) after =
       rw d.operation
-      (taken _ o (thread_still d (with_pool s (taken_out_lem s.pool o) o c.tag) o (phase_of s t) refl refl (λ q. refl) refl) free)
+      (taken _ o (thread_still d (with_pool s (taken_out s.pool o) o c.tag) o (phase_of s t) refl refl (λ q. refl) refl) free)
   given_step (begins d idle slot link read) after =
       rw d.operation (unmoved (thread_still d s (hand_of s t) _ refl refl (λ q. refl) (sym (idle_carries (phase_of s t) idle))))
   given_step (swaps {o = o} d link protected read same) after =

@@ -18,7 +18,7 @@ use Rattle.entries.specs.Sizes.{positions}
 use Rattle.entries.specs.Phases.{carried_by}
 use Rattle.entries.specs.PhaseFacts.{idle_carries}
 use Rattle.entries.specs.Entries.{thread, idle_thread, empty_slot, is_object, with_hazard, with_handover}
-use Rattle.pool.specs.Pool.{taken_out_lem, put_back}
+use Rattle.pool.specs.Pool.{taken_out, put_back}
 use Rattle.entries.specs.Facts.{thread_empty_lem, slot_empty_lem}
 use Rattle.machine.specs.Parts.{slot_at, thread_at, hand_of, phase_of, with_link, with_thread, with_slot, with_pool}
 use Rattle.machine.specs.Sound.{Ranged, Sound, thread_long, slot_long, its_position}
@@ -93,7 +93,7 @@ module _ (s : State) (c : Call) (h : Sound s) where
       let not_begun = no_answer s c first 2 (omega arith) in
       simp (not_freed, not_begun, both_off (eqb c.operation 5))
   waiting_kept (takes {o = o} d empty next free) =
-      let law = thread_waits d (with_pool s (taken_out_lem s.pool o) o c.tag) refl refl o (phase_of s t) in
+      let law = thread_waits d (with_pool s (taken_out s.pool o) o c.tag) refl refl o (phase_of s t) in
       rw d.operation (omega arith)
   waiting_kept (begins {o = o} d idle slot link read) =
       let law = thread_waits d s refl refl (hand_of s t) (Loaded c.slot c.link o) in
