@@ -1,5 +1,4 @@
 -- `slots_good` meets its contract. The loops' invariants: the entries passed are good; and if those under p₀ are, so are those passed.
--- the second loop does not see the sizes: this is of all that end at p₀, or past the array if p₀ is its end
 use mathlib.Core.Path.{◌≡◌, refl, sym, ◌∙◌}
 use native.Mathlib.Omega.{arith}
 use Rattle.basics.specs.Under.{all_under}
@@ -20,10 +19,10 @@ returns-then-not-slot_in_range c = let at = c.loop-p in
 
 pub loop-p-preserved : goal.loop-p-preserved
 loop-p-preserved c = let at = c.loop-p in (
-      omega arith,
-      under_more at.p _ at.invariant.1
-          (slot_within _ at.p _ (omega arith) ∙ passed c.slot_in_range.ensures c.if-not-slot_in_range.false-raw),
-    )
+  omega arith,
+  under_more at.p _ at.invariant.1
+      (slot_within _ at.p _ (omega arith) ∙ passed c.slot_in_range.ensures c.if-not-slot_in_range.false-raw),
+)
 
 pub loop-p-2-init : goal.loop-p-2-init
 loop-p-2-init c = (omega arith, omega arith, λ z past all. all)
@@ -36,13 +35,13 @@ returns-then-not-slot_empty c = let at = c.loop-p-2 in
 
 pub loop-p-2-preserved : goal.loop-p-2-preserved
 loop-p-2-preserved c = let at = c.loop-p-2 in (
-      omega arith,
-      omega arith,
-      λ z past all.
-          let reached = past (omega arith) in
-          under_more at.p _ (at.invariant.2 z past all)
-          (slot_beyond _ at.p _ (omega arith) ∙ passed c.slot_empty.ensures c.if-not-slot_empty.false-raw),
-    )
+  omega arith,
+  omega arith,
+  λ z past all.
+      let reached = past (omega arith) in
+      under_more at.p _ (at.invariant.2 z past all)
+      (slot_beyond _ at.p _ (omega arith) ∙ passed c.slot_empty.ensures c.if-not-slot_empty.false-raw),
+)
 
 pub returns : goal.returns
 returns c = let at = c.loop-p-2 in

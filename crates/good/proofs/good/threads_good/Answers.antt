@@ -1,5 +1,4 @@
 -- `threads_good` meets its contract. The loops' invariants: the entries passed are good; and if those under t₀ are, so are those passed.
--- the second loop does not see the sizes: this is of all that end at t₀, or past the array if t₀ is its end
 use mathlib.Core.Path.{◌≡◌, refl, sym, ◌∙◌}
 use native.Mathlib.Omega.{arith}
 use Rattle.basics.specs.Under.{all_under}
@@ -20,10 +19,10 @@ returns-then-not-thread_in_range c = let at = c.loop-t in
 
 pub loop-t-preserved : goal.loop-t-preserved
 loop-t-preserved c = let at = c.loop-t in (
-      omega arith,
-      under_more at.t _ at.invariant.1
-          (thread_within _ at.t _ (omega arith) ∙ passed c.thread_in_range.ensures c.if-not-thread_in_range.false-raw),
-    )
+  omega arith,
+  under_more at.t _ at.invariant.1
+      (thread_within _ at.t _ (omega arith) ∙ passed c.thread_in_range.ensures c.if-not-thread_in_range.false-raw),
+)
 
 pub loop-t-2-init : goal.loop-t-2-init
 loop-t-2-init c = (omega arith, omega arith, λ z past all. all)
@@ -36,13 +35,13 @@ returns-then-not-thread_empty c = let at = c.loop-t-2 in
 
 pub loop-t-2-preserved : goal.loop-t-2-preserved
 loop-t-2-preserved c = let at = c.loop-t-2 in (
-      omega arith,
-      omega arith,
-      λ z past all.
-          let reached = past (omega arith) in
-          under_more at.t _ (at.invariant.2 z past all)
-          (thread_beyond _ at.t _ (omega arith) ∙ passed c.thread_empty.ensures c.if-not-thread_empty.false-raw),
-    )
+  omega arith,
+  omega arith,
+  λ z past all.
+      let reached = past (omega arith) in
+      under_more at.t _ (at.invariant.2 z past all)
+      (thread_beyond _ at.t _ (omega arith) ∙ passed c.thread_empty.ensures c.if-not-thread_empty.false-raw),
+)
 
 pub returns : goal.returns
 returns c = let at = c.loop-t-2 in
