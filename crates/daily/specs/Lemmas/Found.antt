@@ -10,7 +10,7 @@ use Rattle.entries.specs.PhaseFacts.{AtLook}
 use Rattle.machine.specs.Parts.{slot_at, phase_of, position_of}
 use Rattle.machine.specs.Sound.{Sound}
 use Rattle.machine.specs.Step.{step_of}
-use Rattle.laws.specs.Promise.{way, way_keeps_sound, way_keeps_sizes}
+use Rattle.laws.proofs.Promise.{way, way_keeps_sound, way_keeps_sizes}
 use Rattle.promise.specs.History.{event_of, history, state_after}
 use Rattle.promise.specs.Asked.{is_accepted}
 use Rattle.daily.specs.Swept.{own_steps, Publishes, Sweeps, Fate}

@@ -23,7 +23,7 @@ use Rattle.machine.specs.Sound.{Sound, thread_long}
 use Rattle.machine.specs.Refusals.{refusals}
 use Rattle.machine.specs.Accepted.{refusals_high}
 use Rattle.machine.specs.Step.{step_of}
-use Rattle.laws.specs.Promise.{way, way_keeps_sound, way_keeps_sizes, way_keeps_others, refused_keeps_state}
+use Rattle.laws.proofs.Promise.{way, way_keeps_sound, way_keeps_sizes, way_keeps_others, refused_keeps_state}
 use Rattle.promise.specs.History.{Event, history_by, state_by, event_of, history, state_after}
 use Rattle.promise.specs.Asked.{is_accepted}
 use Rattle.daily.specs.Swept.{is_step_of, own_steps}

@@ -18,7 +18,7 @@ use Rattle.machine.specs.Parts.{slot_at, hand_of, phase_of, position_of}
 use Rattle.machine.specs.Sound.{Sound, slot_long}
 use Rattle.machine.specs.Answers.{numbers, work_of, numbers_of}
 use Rattle.machine.specs.Step.{step_of}
-use Rattle.laws.specs.Promise.{way, way_keeps_sound, way_keeps_sizes}
+use Rattle.laws.proofs.Promise.{way, way_keeps_sound, way_keeps_sizes}
 use Rattle.laws.specs.Ways.{Does, Empties, by_drain, by_sweep, Way, refused, takes, begins, swaps, moves, reads, retires, clears, publishes, protects, finds_nothing, loads_again, finishes, sweeps, drains, meets, passes, frees, leaves, displaces}
 use Rattle.promise.specs.History.{history, state_after, event_of}
 use Rattle.promise.specs.Asked.{is_accepted}

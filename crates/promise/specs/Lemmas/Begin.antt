@@ -17,7 +17,7 @@ use Rattle.machine.specs.Count.{five_places}
 use Rattle.machine.specs.Fresh.{fresh_of}
 use Rattle.entries.specs.Facts.{bounds}
 use Rattle.machine.specs.Sound.{Sound, to_sound}
-use Rattle.laws.specs.Promise.{fresh_is_sound}
+use Rattle.laws.proofs.Promise.{fresh_is_sound}
 use Rattle.promise.specs.Store.{empty_store}
 use Rattle.promise.specs.Reading.{no_takes, record_of}
 use Rattle.promise.specs.Asked.{none_asked}

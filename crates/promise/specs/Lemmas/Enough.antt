@@ -30,7 +30,7 @@ use Rattle.machine.specs.Refusals.{reads_slot, state_rows, field_rows, thread_ro
 use Rattle.machine.specs.Accepted.{fields_pass, thread_pass}
 use Rattle.machine.specs.Step.{step_of}
 use Rattle.machine.specs.Count.{five_places}
-use Rattle.laws.specs.Promise.{refused_exactly, five_places_sum}
+use Rattle.laws.proofs.Promise.{refused_exactly, five_places_sum}
 use Rattle.promise.specs.Run.{state}
 use Rattle.promise.specs.Moments.{same_sizes, always_sound}
 use Rattle.promise.specs.Lemmas.Waiting.{handovers_end, carried_end}

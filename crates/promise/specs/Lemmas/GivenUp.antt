@@ -29,7 +29,7 @@ use Rattle.machine.specs.Answers.{numbers_of}
 use Rattle.machine.specs.Fresh.{fresh_of}
 use Rattle.machine.specs.Step.{step_of}
 use Rattle.laws.specs.OnePlace.{carried_not_free}
-use Rattle.laws.specs.Promise.{way}
+use Rattle.laws.proofs.Promise.{way}
 use Rattle.laws.specs.Ways.{own, named, Does, Way, refused, takes, begins, swaps, moves, reads, retires, clears, publishes, protects, finds_nothing, loads_again, finishes, sweeps, drains, meets, passes, frees, leaves, displaces}
 use Rattle.promise.specs.Store.{Store}
 use Rattle.promise.specs.History.{history_by, state_by, history, state_after, is_retire, is_freed}

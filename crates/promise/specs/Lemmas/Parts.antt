@@ -11,7 +11,7 @@ use Rattle.machine.specs.Step.{step_of}
 use Rattle.machine.specs.Count.{five_places}
 use Rattle.basics.specs.Counts.{how_many}
 use Rattle.machine.specs.Sound.{from_sound}
-use Rattle.laws.specs.Promise.{way, sound_never_19, five_places_sum}
+use Rattle.laws.proofs.Promise.{way, sound_never_19, five_places_sum}
 use Rattle.promise.specs.Store.{empty_store, store_says}
 use Rattle.promise.specs.History.{history, state_after, retires, freed}
 use Rattle.promise.specs.Reading.{no_takes}

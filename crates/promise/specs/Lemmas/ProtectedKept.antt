@@ -21,7 +21,7 @@ use Rattle.machine.specs.Sound.{Sound, slot_long, its_position}
 use Rattle.machine.specs.Answers.{numbers_of}
 use Rattle.machine.specs.Accepted.{refusals_high}
 use Rattle.machine.specs.Step.{step_of}
-use Rattle.laws.specs.Promise.{way}
+use Rattle.laws.proofs.Promise.{way}
 use Rattle.laws.specs.Ways.{named, Way, refused, takes, begins, swaps, moves, reads, retires, clears, publishes, protects, finds_nothing, loads_again, finishes, sweeps, drains, meets, passes, frees, leaves, displaces}
 use Rattle.promise.specs.Store.{Store}
 use Rattle.promise.specs.History.{history_by, state_by, event_of, history, state_after}

@@ -8,7 +8,7 @@ use Rattle.entries.specs.declared.Sizes.{Sizes}
 use Rattle.machine.specs.declared.Call.{Call}
 use Rattle.machine.specs.Answers.{Numbers, numbers_of}
 use Rattle.basics.specs.Counts.{bit, how_many}
-use Rattle.laws.specs.Promise.{way, way_keeps_sound, way_keeps_sizes}
+use Rattle.laws.proofs.Promise.{way, way_keeps_sound, way_keeps_sizes}
 use Rattle.machine.specs.Step.{step_of}
 use Rattle.promise.specs.Store.{Store, PlainCall, says, next, store_says, store_after}
 use Rattle.promise.specs.History.{history_by, state_by, event_of, history, state_after, is_retire, is_freed, retires, freed}

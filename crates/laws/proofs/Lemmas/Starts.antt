@@ -1,5 +1,5 @@
 -- The fresh machine and the blank state are sound, and a sound state whose sizes are out of range is the blank one.
-use Rattle.std.specs.Prelude.{ℕ, suc, ◌<◌, ◌≤◌, ◌≡◌, false, replicate}
+use Rattle.std.specs.Prelude.{ℕ, suc, ◌<◌, ◌≤◌, ◌≡◌, false}
 use Rattle.std.proofs.Common.{arith, ap, subst}
 use Rattle.std.proofs.Math.Path.{refl}
 use Rattle.std.proofs.Math.Bool.{true}
@@ -9,17 +9,16 @@ use Rattle.machine.specs.declared.State.{State}
 use Rattle.entries.specs.declared.Sizes.{Sizes}
 use Rattle.entries.specs.declared.Thread.{Thread}
 use Rattle.entries.specs.declared.Slot.{Slot}
-use Rattle.basics.specs.Under.{all_under}
 use Rattle.basics.specs.Counts.{bit, none_in_zeros}
 use Rattle.basics.specs.Lists.{all_same}
 use Rattle.entries.specs.Sizes.{in_range, all_zero, positions}
-use Rattle.entries.specs.Phases.{is_idle, carried_by}
-use Rattle.entries.specs.Entries.{idle_thread, empty_slot, sizes_good, link_good, thread_empty, thread_good, slot_empty, slot_good, tag_good}
+use Rattle.entries.specs.Phases.{carried_by}
+use Rattle.entries.specs.Entries.{idle_thread, empty_slot, sizes_good}
 use Rattle.entries.specs.Facts.{bounds, in_range_good, all_zero_lem, link_empty, thread_empty_lem, slot_empty_lem, tag_empty, zero_link, idle_thread_lem, empty_slot_lem, zero_tag}
 use Rattle.pool.specs.Pool.{pool_good}
 use Rattle.pool.specs.Promise.{fresh_pool_lem, only_fresh}
 use Rattle.machine.specs.Parts.{link_at, thread_at, slot_at, free_at}
-use Rattle.machine.specs.Soundness.{shaped, places_holding, sound}
+use Rattle.machine.specs.Soundness.{places_holding, sound}
 use Rattle.machine.specs.Sound.{Ranged, Sound, from_sound}
 use Rattle.machine.specs.Fresh.{fresh_of, blank}
 

@@ -18,7 +18,7 @@ use Rattle.machine.specs.Refusals.{state_rows, field_rows, thread_rows, object_r
 use Rattle.machine.specs.Accepted.{refusals_high}
 use Rattle.machine.specs.Step.{step_of, done_of}
 use Rattle.laws.specs.Ways.{Way, refused, takes, begins, swaps, moves, reads, retires, clears, publishes, protects, finds_nothing, loads_again, finishes, sweeps, drains, meets, passes, frees, leaves, displaces}
-use Rattle.laws.specs.Lemmas.Inversion.{way}
+use Rattle.laws.proofs.Lemmas.Inversion.{way}
 
 module _ (s : State) (c : Call) where
   pub refused_way : {o : Outcome} → Way s c o → (k : ℕ) → o.answer ≡ Refused k → (o.state ≡ s) × FirstIs (refusals s c) k

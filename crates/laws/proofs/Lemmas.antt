@@ -1,4 +1,4 @@
--- Lemmas nobody needs to read. What they lead to is stated in Promise and OnePlace.
+-- Lemmas nobody needs to read. What they lead to is stated in Promise.
 pub mod Inversion
 pub mod Kept
 pub mod Others

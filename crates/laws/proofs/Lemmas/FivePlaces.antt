@@ -1,5 +1,5 @@
 -- The five places of a sound state sum to N: summed over the objects, the places of each are the five counts, and each object has one.
-use Rattle.std.specs.Prelude.{ℕ, suc, ◌+◌, ◌≡◌, get_or}
+use Rattle.std.specs.Prelude.{ℕ, suc, ◌+◌, ◌≡◌}
 use native.Mathlib.Omega.{arith}
 use Rattle.machine.specs.declared.State.{State}
 use Rattle.entries.specs.declared.Thread.{Thread}
