@@ -11,7 +11,7 @@ use Rattle.machine.specs.Step.{step_of}
 use Rattle.promise.specs.History.{event_of, history, state_after}
 use Rattle.promise.specs.Asked.{is_accepted}
 use Rattle.promise.specs.Run.{state}
-use Rattle.promise.specs.Moments.{same_sizes, always_sound}
+use Rattle.promise.proofs.Moments.{same_sizes, always_sound}
 use Rattle.daily.specs.Swept.{own_steps, Publishes, Sweeps, Fate}
 use Rattle.daily.specs.Lemmas.Sweep as sweep
 use Rattle.daily.specs.Lemmas.Scan as scan

@@ -18,7 +18,7 @@ use Rattle.machine.specs.Step.{done_of, step_of}
 use Rattle.laws.proofs.Promise.{fresh_is_sound, step_keeps_sound}
 use Rattle.promise.specs.History.{Machine, history_by, state_by, history, state_after}
 use Rattle.promise.specs.Run.{events, state}
-use Rattle.promise.specs.Moments.{always_sound}
+use Rattle.promise.proofs.Moments.{always_sound}
 
 unfoldable pub unchecked : Machine
 unchecked s c =

@@ -32,8 +32,8 @@ use Rattle.machine.specs.Step.{step_of}
 use Rattle.machine.specs.Count.{five_places}
 use Rattle.laws.proofs.Promise.{refused_exactly, five_places_sum}
 use Rattle.promise.specs.Run.{state}
-use Rattle.promise.specs.Moments.{same_sizes, always_sound}
-use Rattle.promise.specs.Lemmas.Waiting.{handovers_end, carried_end}
+use Rattle.promise.proofs.Moments.{same_sizes, always_sound}
+use Rattle.promise.proofs.Lemmas.Waiting.{handovers_end, carried_end}
 
 -- 30's own condition: a take, and nothing is free
 thirty : (slot : Slot) (pool : Pool) (c : Call) → FirstIs (object_rows slot pool c) 30 → (c.operation ≡ 1) × (next_of pool ≡ 0)

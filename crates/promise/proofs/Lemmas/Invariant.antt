@@ -15,8 +15,8 @@ use Rattle.promise.specs.Reading.{Reading, noted, renamed}
 use Rattle.promise.specs.Asked.{Memory}
 use Rattle.promise.specs.Listing.{listed_of}
 use Rattle.promise.specs.Guard.{Guarded}
-use Rattle.promise.specs.Lemmas.Same.{Same, Held}
-use Rattle.promise.specs.Lemmas.Remembers.{Remembers}
+use Rattle.promise.proofs.Lemmas.Same.{Same, Held}
+use Rattle.promise.proofs.Lemmas.Remembers.{Remembers}
 
 pub record Invariant (s : State) (m : Memory) (r : Reading) (store : Store) : Type 0 where
   pub sound : Sound s

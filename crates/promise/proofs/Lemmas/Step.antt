@@ -1,5 +1,5 @@
 -- Whichever way a call goes, it matches what the store does: the listed call whole, or nothing.
-use Prim.Native.Nat.{ℕ, suc, ◌-◌, ◌<◌}
+use Prim.Native.Nat.{ℕ, suc, ◌<◌}
 use Rattle.std.proofs.Common.{arith, ◌∙◌, subst}
 use Rattle.std.specs.Prelude.{◌≡◌, Bool, cond, length}
 use Rattle.std.proofs.Math.Path.{refl, sym, ap}
@@ -29,10 +29,10 @@ use Rattle.promise.specs.Reading.{Reading, noted, renamed, record_of}
 use Rattle.promise.specs.Asked.{Memory}
 use Rattle.promise.specs.Listing.{listed_of, at_once}
 use Rattle.promise.specs.Holdings.{SameHoldings}
-use Rattle.promise.specs.Lemmas.Refusing.{not_accepted}
-use Rattle.promise.specs.Lemmas.Same.{Held, Same, record_none, record_some, compare_records, compare_none, record_tag, named_freed, same_hand, same_link, same_slot, same_pool}
-use Rattle.promise.specs.Lemmas.SameTake.{taking, held_same, taken_record, named_taken, holdings_taken}
-use Rattle.promise.specs.Lemmas.Invariant.{Invariant, Matches, one_listed, none_listed, links_held, hands_held, slots_held}
+use Rattle.promise.proofs.Lemmas.Refusing.{not_accepted}
+use Rattle.promise.proofs.Lemmas.Same.{Held, Same, record_none, record_some, compare_records, compare_none, record_tag, named_freed, same_hand, same_link, same_slot, same_pool}
+use Rattle.promise.proofs.Lemmas.SameTake.{taking, held_same, taken_record, named_taken, holdings_taken}
+use Rattle.promise.proofs.Lemmas.Invariant.{Invariant, Matches, one_listed, none_listed, links_held, hands_held, slots_held}
 
 module _ (s : State) (c : Call) (m : Memory) (r : Reading) (store : Store) (v : Invariant s m r store) where
   abbrev t : ℕ

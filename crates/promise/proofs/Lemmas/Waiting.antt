@@ -27,7 +27,7 @@ use Rattle.machine.specs.Count.{five_places}
 use Rattle.laws.specs.Ways.{own, named, Does, Way, refused, takes, begins, swaps, moves, reads, retires, clears, publishes, protects, finds_nothing, loads_again, finishes, sweeps, drains, meets, passes, frees, leaves, displaces}
 use Rattle.promise.specs.History.{Event, is_retire, is_freed}
 use Rattle.promise.specs.Holdings.{waiting}
-use Rattle.promise.specs.Lemmas.Refusing.{both_off, no_answer}
+use Rattle.promise.proofs.Lemmas.Refusing.{both_off, no_answer}
 
 -- one that is carried, or stands in a handover
 one : ℕ → ℕ

@@ -1,5 +1,5 @@
 -- A take: the object was free, so no link, hand or protected slot held it, and its new record is unlike every other.
-use Rattle.std.specs.Prelude.{ℕ, zero, suc, ◌-◌, ◌<◌, ◌≤◌, ◌≡◌, true, false, List, [], ◌∷◌, ◌++◌, length, get_or, set}
+use Rattle.std.specs.Prelude.{ℕ, zero, suc, ◌-◌, ◌<◌, ◌≤◌, ◌≡◌, true, List, [], ◌∷◌, ◌++◌, length, get_or, set}
 use Rattle.std.proofs.Common.{arith, sym, ap, ◌∙◌, subst, length-append, get_or-set_same, get_or-set_other}
 use Rattle.std.proofs.lemmas.Bool.{false≢true}
 use Rattle.std.proofs.Math.ListN.{get_or-append}
@@ -18,7 +18,7 @@ use Rattle.machine.specs.Parts.{link_at, slot_at, hand_of, with_thread, with_poo
 use Rattle.promise.specs.Store.{Store}
 use Rattle.promise.specs.Reading.{Reading, record_of}
 use Rattle.promise.specs.Holdings.{SameHoldings}
-use Rattle.promise.specs.Lemmas.Same.{Live, Held, Named, Same, record_none, record_some}
+use Rattle.promise.proofs.Lemmas.Same.{Live, Held, Named, record_none, record_some}
 
 -- the tag of a record made before is the same after one more is made, and the new one has the new tag
 module _ (tags : List ℕ) (tag : ℕ) where

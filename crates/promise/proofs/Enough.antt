@@ -9,7 +9,7 @@ use Rattle.machine.specs.declared.Answer.TheVariants.{Refused}
 use Rattle.entries.specs.Sizes.{in_range}
 use Rattle.machine.specs.Step.{step_of}
 use Rattle.promise.specs.Run.{state}
-use Rattle.promise.specs.Lemmas.Enough as enough
+use Rattle.promise.proofs.Lemmas.Enough as enough
 
 -- no call of any run is refused 30, "take: no object free"
 pub enough_records : (z : Sizes) → in_range z ≡ true → z.links + 2 * z.threads + z.threads * z.slots ≤ z.objects + 1

@@ -22,9 +22,9 @@ use Rattle.promise.specs.Store.{empty_store}
 use Rattle.promise.specs.Reading.{no_takes, record_of}
 use Rattle.promise.specs.Asked.{none_asked}
 use Rattle.promise.specs.Holdings.{waiting}
-use Rattle.promise.specs.Lemmas.Same.{Same, Live, record_none}
-use Rattle.promise.specs.Lemmas.Remembers.{nothing_fits}
-use Rattle.promise.specs.Lemmas.Invariant.{Invariant}
+use Rattle.promise.proofs.Lemmas.Same.{Same, Live, record_none}
+use Rattle.promise.proofs.Lemmas.Remembers.{nothing_fits}
+use Rattle.promise.proofs.Lemmas.Invariant.{Invariant}
 
 module _ (z : Sizes) (h : in_range z ≡ true) where
   start_sound : Sound (fresh_of z)

@@ -6,7 +6,7 @@ use Rattle.entries.specs.Sizes.{in_range}
 use Rattle.machine.specs.Sound.{Sound}
 use Rattle.promise.specs.Run.{state}
 use Rattle.promise.specs.Guard.{Guarded}
-use Rattle.promise.specs.Lemmas.Parts as parts
+use Rattle.promise.proofs.Lemmas.Parts as parts
 
 module _ (z : Sizes) (h : in_range z ≡ true) (calls : List Call) where
   pub same_sizes : (state z calls).sizes ≡ z

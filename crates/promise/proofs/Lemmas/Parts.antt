@@ -20,14 +20,14 @@ use Rattle.promise.specs.Listing.{listing, machine_says}
 use Rattle.promise.specs.Holdings.{SameHoldings, SameRecords, Unheld, waiting, renewals, hands_out}
 use Rattle.promise.specs.GivenUp.{SameGivenUp, none_given_up}
 use Rattle.promise.specs.Run.{events, state, memory, store, reading, given}
-use Rattle.promise.specs.Lemmas.Invariant.{Invariant}
-use Rattle.promise.specs.Lemmas.Waiting.{waiting_most}
-use Rattle.promise.specs.Lemmas.Runs.{Run, run}
-use Rattle.promise.specs.Lemmas.Begin.{start_invariant, start_waiting}
-use Rattle.promise.specs.Lemmas.Same.{records_same}
-use Rattle.promise.specs.Lemmas.GivenUp.{given_kept, start_given}
-use Rattle.promise.specs.Lemmas.FreedUnheld.{freeing}
-use Rattle.promise.specs.Lemmas.ProtectedKept as slots
+use Rattle.promise.proofs.Lemmas.Invariant.{Invariant}
+use Rattle.promise.proofs.Lemmas.Waiting.{waiting_most}
+use Rattle.promise.proofs.Lemmas.Runs.{Run, run}
+use Rattle.promise.proofs.Lemmas.Begin.{start_invariant, start_waiting}
+use Rattle.promise.proofs.Lemmas.Same.{records_same}
+use Rattle.promise.proofs.Lemmas.GivenUp.{given_kept, start_given}
+use Rattle.promise.proofs.Lemmas.FreedUnheld.{freeing}
+use Rattle.promise.proofs.Lemmas.ProtectedKept as slots
 
 module _ (z : Sizes) (h : in_range z ≡ true) (calls : List Call) where
   ended : Run (fresh_of z) none_asked no_takes empty_store calls

@@ -1,7 +1,7 @@
 -- The invariant that makes freeing safe: what a marked slot holds is not free, and if it has been retired it lies at or below that slot. It is
 -- kept whichever way a call goes.
 use Rattle.std.specs.Prelude.{ℕ, ◌<◌, ◌≤◌, ◌≡◌, Bool, false, length}
-use Rattle.std.proofs.Common.{arith, ap, ◌∙◌}
+use Rattle.std.proofs.Common.{arith, ◌∙◌}
 use Rattle.std.proofs.Math.Path.{refl, sym, subst}
 use Rattle.std.proofs.Math.Bool.{true, false≢true}
 use Rattle.machine.specs.declared.State.{State}

@@ -1,7 +1,7 @@
 -- The machine and the store hold the same records, and why that can be told from the objects' numbers: objects that are not free were
 -- handed out by different takes, and have the tags of their records.
-use Rattle.std.specs.Prelude.{ℕ, zero, suc, ◌-◌, ◌<◌, ◌≤◌, ◌≡◌, refl, Bool, true, false, List, length, get_or, set, eqb}
-use Rattle.std.proofs.Common.{arith, sym, ap, ◌∙◌, subst, get_or-set_other, eq-eqb, ne_eqb}
+use Rattle.std.specs.Prelude.{ℕ, zero, suc, ◌-◌, ◌<◌, ◌≤◌, ◌≡◌, refl, true, false, List, length, get_or, set, eqb}
+use Rattle.std.proofs.Common.{arith, sym, ap, ◌∙◌, get_or-set_other, eq-eqb, ne_eqb}
 use Rattle.std.proofs.lemmas.Bool.{false≢true}
 use Rattle.machine.specs.declared.State.{State}
 use Rattle.entries.specs.declared.Slot.{Slot}
@@ -11,9 +11,9 @@ use Rattle.pool.specs.declared.Pool.{Pool}
 use Rattle.basics.specs.Tests.{same_or_not}
 use Rattle.basics.specs.Lists.{at_set}
 use Rattle.entries.specs.Sizes.{positions}
-use Rattle.entries.specs.Entries.{thread, idle_thread, empty_slot, with_hazard, with_handover}
+use Rattle.entries.specs.Entries.{thread, idle_thread, empty_slot}
 use Rattle.pool.specs.Pool.{is_free}
-use Rattle.machine.specs.Parts.{link_at, slot_at, with_link, with_thread, with_slot, with_pool}
+use Rattle.machine.specs.Parts.{with_link, with_thread, with_slot, with_pool}
 use Rattle.promise.specs.Store.{Store, tag_of_record}
 use Rattle.promise.specs.Reading.{Reading, record_of}
 use Rattle.promise.specs.Holdings.{SameHoldings, IsKept, SameRecords}

@@ -19,7 +19,7 @@ use Rattle.machine.specs.Sound.{Sound, thread_long}
 use Rattle.machine.specs.Answers.{numbers_of}
 use Rattle.laws.specs.Ways.{Does, Way, refused, takes, begins, swaps, moves, reads, retires, clears, publishes, protects, finds_nothing, loads_again, finishes, sweeps, drains, meets, passes, frees, leaves, displaces}
 use Rattle.promise.specs.Asked.{Memory, remembered}
-use Rattle.promise.specs.Lemmas.Refusing.{not_accepted}
+use Rattle.promise.proofs.Lemmas.Refusing.{not_accepted}
 
 -- the protect in this phase, if any, is the one remembered
 abbrev pub Fits : Phase → ℕ → ℕ → ℕ → Type 0

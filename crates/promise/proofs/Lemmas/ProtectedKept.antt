@@ -29,9 +29,9 @@ use Rattle.promise.specs.Reading.{Reading}
 use Rattle.promise.specs.Asked.{Memory, remembered}
 use Rattle.promise.specs.Holdings.{renews, renewals, hands_out}
 use Rattle.promise.specs.Guard.{Guarded}
-use Rattle.promise.specs.Lemmas.Remembers.{Remembers}
-use Rattle.promise.specs.Lemmas.Invariant.{Invariant}
-use Rattle.promise.specs.Lemmas.Runs.{moment}
+use Rattle.promise.proofs.Lemmas.Remembers.{Remembers}
+use Rattle.promise.proofs.Lemmas.Invariant.{Invariant}
+use Rattle.promise.proofs.Lemmas.Runs.{moment}
 
 -- the slot keeps its mark and hazard, and the object is not handed out
 record Stays (s : State) (c : Call) (p : ℕ) (o : Outcome) : Type 0 where

@@ -16,11 +16,11 @@ use Rattle.promise.specs.Reading.{Reading, noted, renamed, reading_after}
 use Rattle.promise.specs.Asked.{Memory, remembered, memory_after}
 use Rattle.promise.specs.Listing.{listed_of, listing, machine_says}
 use Rattle.promise.specs.Holdings.{waiting}
-use Rattle.promise.specs.Lemmas.Invariant.{Invariant}
-use Rattle.promise.specs.Lemmas.Guarded.{guarded_kept}
-use Rattle.promise.specs.Lemmas.Waiting.{waiting_kept}
-use Rattle.promise.specs.Lemmas.Remembers.{remembers_kept}
-use Rattle.promise.specs.Lemmas.Step.{matches}
+use Rattle.promise.proofs.Lemmas.Invariant.{Invariant}
+use Rattle.promise.proofs.Lemmas.Guarded.{guarded_kept}
+use Rattle.promise.proofs.Lemmas.Waiting.{waiting_kept}
+use Rattle.promise.proofs.Lemmas.Remembers.{remembers_kept}
+use Rattle.promise.proofs.Lemmas.Step.{matches}
 
 -- one call, listed or not
 pub record Moment (s : State) (c : Call) (m : Memory) (r : Reading) (store : Store) : Type 0 where

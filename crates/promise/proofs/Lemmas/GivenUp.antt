@@ -1,5 +1,5 @@
 -- The takes that were given up and not freed since are those of the objects that wait: kept by every call.
-use Rattle.std.specs.Prelude.{ℕ, suc, ◌-◌, ◌<◌, ◌≤◌, ◌≡◌, false, List, [], ◌∷◌, eqb}
+use Rattle.std.specs.Prelude.{ℕ, suc, ◌<◌, ◌≤◌, ◌≡◌, false, List, [], ◌∷◌, eqb}
 use Rattle.std.proofs.Common.{arith, ap, ◌∙◌}
 use Rattle.std.proofs.Math.Path.{refl, sym, subst}
 use Rattle.std.proofs.Math.Bool.{true}
@@ -36,12 +36,12 @@ use Rattle.promise.specs.History.{history_by, state_by, history, state_after, is
 use Rattle.promise.specs.Reading.{Reading, no_takes, noted, record_of, reading_after}
 use Rattle.promise.specs.Asked.{Memory}
 use Rattle.promise.specs.GivenUp.{GivenUp, none_given_up, given_by, given_after, Waits, handed, carried, WaitsAs, SameGivenUp}
-use Rattle.promise.specs.Lemmas.Refusing.{both_off, no_answer}
-use Rattle.promise.specs.Lemmas.Same.{Live, record_some}
-use Rattle.promise.specs.Lemmas.Waits.{waits_most, waits_not_free, turned, passed, SameWaits, now_carried, only_thread, still_handed, handed_still, nothing_moved, handovers_same, exchanged}
-use Rattle.promise.specs.Lemmas.Invariant.{Invariant}
-use Rattle.promise.specs.Lemmas.Begin.{start_invariant}
-use Rattle.promise.specs.Lemmas.Runs.{moment}
+use Rattle.promise.proofs.Lemmas.Refusing.{both_off, no_answer}
+use Rattle.promise.proofs.Lemmas.Same.{Live, record_some}
+use Rattle.promise.proofs.Lemmas.Waits.{waits_most, waits_not_free, turned, passed, SameWaits, now_carried, only_thread, still_handed, handed_still, nothing_moved, handovers_same, exchanged}
+use Rattle.promise.proofs.Lemmas.Invariant.{Invariant}
+use Rattle.promise.proofs.Lemmas.Begin.{start_invariant}
+use Rattle.promise.proofs.Lemmas.Runs.{moment}
 
 -- an object that was not taken is read as before
 taken_other : (r : Reading) (o x : ℕ) → (x ≡ o → ⊥) → record_of (noted r (Taken o)) x ≡ record_of r x

@@ -1,5 +1,5 @@
 -- Who waits after one store: a thread's entry and a slot's are all that matters, and what leaves one of them is in the other.
-use Rattle.std.specs.Prelude.{ℕ, ◌<◌, ◌≤◌, ◌≡◌, refl, false, length, get_or, set}
+use Rattle.std.specs.Prelude.{ℕ, ◌<◌, ◌≤◌, ◌≡◌, refl, false, length}
 use Rattle.std.proofs.Common.{sym, ap, ◌∙◌, subst, get_or-set_same, get_or-set_other}
 use Rattle.machine.specs.declared.State.{State}
 use Rattle.entries.specs.declared.Sizes.{Sizes}
