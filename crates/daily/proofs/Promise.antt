@@ -13,9 +13,9 @@ use Rattle.promise.specs.Asked.{is_accepted}
 use Rattle.promise.specs.Run.{state}
 use Rattle.promise.proofs.Moments.{same_sizes, always_sound}
 use Rattle.daily.specs.Swept.{own_steps, Publishes, Sweeps, Fate}
-use Rattle.daily.specs.Lemmas.Sweep as sweep
-use Rattle.daily.specs.Lemmas.Scan as scan
-use Rattle.daily.specs.Lemmas.Found as after
+use Rattle.daily.proofs.Lemmas.Sweep as sweep
+use Rattle.daily.proofs.Lemmas.Scan as scan
+use Rattle.daily.proofs.Lemmas.Found as after
 
 module _ (z : Sizes) (h : in_range z ≡ true) (calls : List Call) where
   -- After a publication the thread's next step, whatever other threads have done in between, sweeps that slot: it leaves the handover empty, and

@@ -1,7 +1,7 @@
 -- What becomes of an object that a thread carries: every step of that thread's own brings it nearer to where it is freed or left.
 use Prim.Native.Nat.{ℕ, suc, ◌+◌, ◌-◌, ◌<◌, ◌≤◌}
 use Rattle.std.proofs.Common.{arith, le_refl, sym, ◌∙◌, get_or-set_same}
-use Rattle.std.specs.Prelude.{◌≡◌, Bool, cond, get_or, set}
+use Rattle.std.specs.Prelude.{◌≡◌, Bool, get_or, set}
 use Rattle.std.proofs.Math.Path.{refl, ap, subst}
 use Rattle.std.proofs.Math.Bool.{true, false}
 use mathlib.Core.List.{List, [], ◌∷◌}
@@ -29,11 +29,8 @@ use Rattle.laws.specs.Ways.{Does, Way, refused, takes, begins, swaps, moves, rea
 use Rattle.promise.specs.History.{history_by, state_by, event_of}
 use Rattle.promise.specs.Asked.{is_accepted}
 use Rattle.daily.specs.Swept.{is_step_of, Fate, carried, freed, left}
-use Rattle.daily.specs.Lemmas.Steps.{event_by, its_new_phase, refused_not, unmoved}
-
--- how many steps of its own a scan has left at the most: before a swap one, before a look at q one for each position from q on and one more
-unfoldable steps_left : Sizes → Bool → ℕ → ℕ
-steps_left z look q = cond look (positions z - q + 1) 1
+use Rattle.daily.specs.StepsLeft.{steps_left}
+use Rattle.daily.proofs.Lemmas.Steps.{event_by, its_new_phase, refused_not, unmoved}
 
 -- a step of the thread that carries o at q
 data Turn (s : State) (c : Call) (o q : ℕ) (look : Bool) (back : Phase) (out : Outcome) : Type 0 where

@@ -14,9 +14,9 @@ use Rattle.laws.proofs.Promise.{way, way_keeps_sound, way_keeps_sizes}
 use Rattle.promise.specs.History.{event_of, history, state_after}
 use Rattle.promise.specs.Asked.{is_accepted}
 use Rattle.daily.specs.Swept.{own_steps, Publishes, Sweeps, Fate}
-use Rattle.daily.specs.Lemmas.Steps.{stays_sound, sizes_stay}
-use Rattle.daily.specs.Lemmas.Sweep.{next_step}
-use Rattle.daily.specs.Lemmas.Scan.{moved, fate}
+use Rattle.daily.proofs.Lemmas.Steps.{stays_sound, sizes_stay}
+use Rattle.daily.proofs.Lemmas.Sweep.{next_step}
+use Rattle.daily.proofs.Lemmas.Scan.{moved, fate}
 
 -- from a state on that the call sweeps
 after_sweep : (s : State) → Sound s → (c : Call) (slot link : ℕ) → Sweeps s c slot link (step_of s c) → (t p : ℕ) → c.thread ≡ t

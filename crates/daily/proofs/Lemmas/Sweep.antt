@@ -23,7 +23,7 @@ use Rattle.laws.specs.Ways.{Does, Empties, by_drain, by_sweep, Way, refused, tak
 use Rattle.promise.specs.History.{history, state_after, event_of}
 use Rattle.promise.specs.Asked.{is_accepted}
 use Rattle.daily.specs.Swept.{own_steps, Publishes, Sweeps}
-use Rattle.daily.specs.Lemmas.Steps.{event_by, its_new_phase, refused_not, all_unmoved, stays_sound, sizes_stay}
+use Rattle.daily.proofs.Lemmas.Steps.{event_by, its_new_phase, refused_not, all_unmoved, stays_sound, sizes_stay}
 
 -- what a thread is in the middle of tells which ways its call can go
 
