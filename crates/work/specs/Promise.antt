@@ -6,7 +6,7 @@ use Rattle.entries.specs.Sizes.{in_range, positions}
 use Rattle.machine.specs.Answers.{numbers, numbers_of}
 use Rattle.machine.specs.Step.{step_of}
 use Rattle.promise.specs.Run.{state}
-use Rattle.promise.specs.Moments.{same_sizes, always_sound}
+use Rattle.promise.proofs.Moments.{same_sizes, always_sound}
 use Rattle.work.specs.Seven.{Did}
 use Rattle.work.specs.Lemmas.Steps as steps
 

@@ -15,7 +15,7 @@ use Rattle.basics.specs.Tests.{tested}
 use Rattle.machine.specs.Sound.{from_sound, marked_object}
 use Rattle.promise.specs.Run.{state}
 use Rattle.promise.specs.Guard.{Guard}
-use Rattle.promise.specs.Moments.{same_sizes, always_sound, always_guarded}
+use Rattle.promise.proofs.Moments.{same_sizes, always_sound, always_guarded}
 use Rattle.reasons.specs.declared.Reason.{Reason}
 use Rattle.reasons.specs.declared.Reason.TheVariants.{Link, Hand, Carried, Handover}
 use Rattle.reasons.specs.declared.Hazard.{Hazard}

@@ -21,7 +21,7 @@ use Rattle.machine.specs.Sound.{Sound, its_phase, its_position}
 use Rattle.machine.specs.Answers.{Numbers, numbers, work_of, numbers_of}
 use Rattle.machine.specs.Accepted.{refusals_high}
 use Rattle.machine.specs.Step.{step_of}
-use Rattle.laws.specs.Promise.{way}
+use Rattle.laws.proofs.Promise.{way}
 use Rattle.laws.specs.Ways.{Empties, by_drain, by_sweep, Way, refused, takes, begins, swaps, moves, reads, retires, clears, publishes, protects, finds_nothing, loads_again, finishes, sweeps, drains, meets, passes, frees, leaves, displaces}
 use Rattle.work.specs.Seven.{Own, Did, publication, failed_read, no_match, match, displacement, found, found_nothing}
 
