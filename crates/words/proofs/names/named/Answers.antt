@@ -1,0 +1,9 @@
+-- `named` meets its contract: each call says what the definition says of its name and the names after it.
+use Rattle.basics.specs.Ascii.{ascii}
+use Rattle.words.specs.Names.{named_of}
+use Rattle.words.proofs.names.named.Goals as goal
+
+pub returns : goal.returns
+unfolding named_of ascii
+returns c = rw (← c.if_named-goon.ensures, ← c.if_named-go.ensures, ← c.if_named-clear.ensures, ← c.if_named-retire.ensures, ← c.if_named-read.ensures, ← c.if_named-swap.ensures, ← c.if_named-protect.ensures)
+    c.if_named.ensures
