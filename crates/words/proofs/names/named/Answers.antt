@@ -5,5 +5,4 @@ use Rattle.words.proofs.names.named.Goals as goal
 
 pub returns : goal.returns
 unfolding named_of ascii
-returns c = rw (← c.if_named-goon.ensures, ← c.if_named-go.ensures, ← c.if_named-clear.ensures, ← c.if_named-retire.ensures, ← c.if_named-read.ensures, ← c.if_named-swap.ensures, ← c.if_named-protect.ensures)
-    c.if_named.ensures
+returns c = cc
