@@ -1,4 +1,7 @@
 -- `parts_sound` meets its contract: any test that fails decides, and where none does, what is left is whether each object is in one place.
+-- the numbers of all places but the free ones, within the sizes
+-- the tests that were passed before the walk
+-- what the walk finds decides
 use Prim.Native.Nat.{ℕ, suc, ◌+◌}
 use native.Mathlib.Omega.{arith}
 use mathlib.Core.Path.{◌≡◌, ap, ◌∙◌}
@@ -20,14 +23,12 @@ use Rattle.machine.specs.declared.State.{State}
 use Rattle.machine.specs.Parts.{of_parts, link_at, thread_at, slot_at, free_at}
 use Rattle.machine.specs.Soundness.{places_holding, sound}
 use Rattle.machine.specs.Sound.{Shape, from_shape}
-use Rattle.machine.proofs.soundness.parts_sound.Statement.{statement}
-use Rattle.machine.proofs.soundness.parts_sound.Tie as tie
+use Rattle.machine.proofs.soundness.parts_sound.Goals as goal
 
--- the numbers of all places but the free ones, within the sizes
 abbrev row : State → List ℕ
+
 row s = row_of s.sizes s.links s.threads s.slots
 
--- the tests that were passed before the walk
 record Passed (s : State) : Type 0 where
   shape : Shape s
   sizes : sizes_good s.sizes ≡ true
@@ -37,7 +38,9 @@ record Passed (s : State) : Type 0 where
 
 counted : (s : State) → Passed s → (k : ℕ)
     → bit (free_at s (suc k)) + count_under 64 (λ i. eqb (get_or (row s) i 0) (suc k)) ≡ places_holding s (suc k)
+
 unfolding places_holding
+
 counted s passed k =
     let long = passed.shape in
     omega (
@@ -51,80 +54,53 @@ counted s passed k =
 
 once-each : (s : State) → Passed s
     → each_once s.sizes.objects s.pool (row s) ≡ all_under s.sizes.objects (λ k. eqb (places_holding s (suc k)) 1)
+
 unfolding each_once
+
 once-each s passed =
     and_then (le-leb _ _ (bounds _ passed.sizes).objects)
     (under_same _ _ _ (λ k h. ap (λ (m : ℕ). eqb m 1) (counted s passed k)))
 
--- what the walk finds decides
 decides : (s : State) → Passed s → all_under 240 (λ k. tag_good s.sizes k (get_or s.tags k 0)) ≡ true → length s.pool.marks ≡ 240
     → (all_under 240 (λ k. ltb k s.sizes.objects || not (get_or s.pool.marks k false)) && each_once s.sizes.objects s.pool (row s)) ≡ sound s
+
 unfolding sound pool_good
+
 decides s passed tags long =
     rw (from_shape s passed.shape, passed.sizes, passed.links, passed.threads, passed.slots, tags, eq-eqb _ _ long, once-each s passed)
 
-has-shape : (c : tie.Start)
-    → (let a = c.args in
-    Shape (of_parts a.z a.links.now a.threads a.slots a.marks.now a.tags.now))
-has-shape c = record { links = c.requires.0; threads = search rules; slots = search rules; tags = c.requires.2 }
-
-returns : tie.Need-returns
+pub returns-then-not-sizes_good : goal.returns-then-not-sizes_good
 unfolding sound
-returns c = rw (refused c.before.sizes-good.ensures c.if1.true, and-false)
+returns-then-not-sizes_good c = rw (refused c.sizes_good.ensures c.if-not-sizes_good.true-raw, and-false)
 
-returns-2 : tie.Need-returns-2
+pub returns-then-not-links_good : goal.returns-then-not-links_good
 unfolding sound
-returns-2 c = rw (refused c.before.links-good.ensures c.if2.true, and-false)
+returns-then-not-links_good c = rw (refused c.links_good.ensures c.if-not-links_good.true-raw, and-false)
 
-returns-3 : tie.Need-returns-3
+pub returns-then-not-threads_good : goal.returns-then-not-threads_good
 unfolding sound
-returns-3 c = rw (refused c.before.threads-good.ensures c.if3.true, and-false)
+returns-then-not-threads_good c = rw (refused c.threads_good.ensures c.if-not-threads_good.true-raw, and-false)
 
-returns-4 : tie.Need-returns-4
+pub returns-then-not-slots_good : goal.returns-then-not-slots_good
 unfolding sound
-returns-4 c = rw (refused c.before.slots-good.ensures c.if4.true, and-false)
+returns-then-not-slots_good c = rw (refused c.slots_good.ensures c.if-not-slots_good.true-raw, and-false)
 
-returns-5 : tie.Need-returns-5
+pub returns-then-not-tags_good : goal.returns-then-not-tags_good
 unfolding sound
-returns-5 c = rw (refused c.before.tags-good.ensures c.if5.true, and-false)
+returns-then-not-tags_good c = rw (refused c.tags_good.ensures c.if-not-tags_good.true-raw, and-false)
 
-returns-6 : tie.Need-returns-6
-returns-6 c =
-    let e5 = c.before.before.before.before in
-    let e4 = e5.before.before in
-    let e3 = e4.before.before in
-    let e2 = e3.before.before in
-    let e1 = e2.before.before in
-    let start = e1.before.before in
-    let a = start.args in
+pub returns : goal.returns
+returns c = let a = c.args in
     let s = of_parts a.z a.links.now a.threads a.slots a.marks.now a.tags.now in
-    c.are-placed.ensures ∙
-    rw c.before.before.row_of.ensures
+    c.are_placed.ensures ∙
+    rw c.row_of-row.ensures
     (decides s
     (record {
-      shape = has-shape start;
-      sizes = passed e1.before.sizes-good.ensures e1.if1.false;
-      links = passed e2.before.links-good.ensures e2.if2.false;
-      threads = passed e3.before.threads-good.ensures e3.if3.false;
-      slots = passed e4.before.slots-good.ensures e4.if4.false;
+      shape = record { links = c.requires.0; threads = search rules; slots = search rules; tags = c.requires.2 };
+      sizes = passed c.sizes_good.ensures c.if-not-sizes_good.false-raw;
+      links = passed c.links_good.ensures c.if-not-links_good.false-raw;
+      threads = passed c.threads_good.ensures c.if-not-threads_good.false-raw;
+      slots = passed c.slots_good.ensures c.if-not-slots_good.false-raw;
     })
-    (passed e5.before.tags-good.ensures e5.if5.false)
-    start.requires.1)
-
-pub parts_sound_spec : {M : Type 1} → statement M
-parts_sound_spec =
-    tie.close
-    (tie.spec
-    (λ c κs. search rules)
-    returns
-    (λ c κs. search rules)
-    returns-2
-    (λ c κs. search rules)
-    returns-3
-    (λ c κs. search rules)
-    returns-4
-    (λ c κs. search rules)
-    returns-5
-    (λ c κs. search rules)
-    (λ c κs. search rules)
-    returns-6)
+    (passed c.tags_good.ensures c.if-not-tags_good.false-raw)
+    c.requires.1)
