@@ -1,5 +1,4 @@
 -- `clear` does what the table says of it; the position is the one that the definition names.
-use borrow.Author.Rules.{rules}
 use Rattle.machine.specs.Calls.{clear_of}
 use Rattle.machine.proofs.State.clear.Goals as goal
 

@@ -1,6 +1,5 @@
 -- `confirm` is the case Published, one return for each of its three ends.
 use borrow.Author.Tests.{eq-eqb, ne_eqb}
-use borrow.Author.Rules.{rules}
 use Rattle.machine.specs.GoOn.{confirm_of}
 use Rattle.machine.proofs.State.confirm.Goals as goal
 

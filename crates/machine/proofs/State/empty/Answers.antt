@@ -1,7 +1,6 @@
 -- `empty` takes the handover, one return for each of its three ends.
 use mathlib.Core.Path.{sym, ◌∙◌}
 use borrow.Author.Tests.{eq-eqb, ne_eqb}
-use borrow.Author.Rules.{rules}
 use Rattle.machine.specs.GoOn.{nothing_found, empty_of}
 use Rattle.machine.proofs.State.empty.Goals as goal
 

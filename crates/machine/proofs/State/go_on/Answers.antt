@@ -5,7 +5,6 @@ use native.Mathlib.Omega.{arith}
 use mathlib.Core.Path.{◌≡◌, ◌∙◌}
 use mathlib.Core.Bool.{true}
 use mathlib.Core.Logic.{⊎_elim}
-use borrow.Author.Rules.{rules}
 use Rattle.entries.specs.declared.Phase.{Phase}
 use Rattle.entries.specs.Phases.{phase_in_range}
 use Rattle.entries.specs.PhaseFacts.{loaded_facts, sweeping_facts, published_facts, draining_facts, look_facts, swap_facts, sweep_look_facts, sweep_swap_facts}

@@ -1,6 +1,5 @@
 -- `hand_over` is the case Swap, by what the handover held before.
 use borrow.Author.Tests.{eq-eqb, ne_eqb}
-use borrow.Author.Rules.{rules}
 use Rattle.machine.specs.GoOn.{hand_over_of}
 use Rattle.machine.proofs.State.hand_over.Goals as goal
 

@@ -1,7 +1,6 @@
 -- `let_go` is the case Look at T × H: the object is free again, without its tag.
 use native.Mathlib.Nat.{le_refl}
 use borrow.Author.Tests.{le-ltb}
-use borrow.Author.Rules.{rules}
 use Rattle.entries.specs.Sizes.{positions}
 use Rattle.machine.specs.GoOn.{look_of}
 use Rattle.machine.proofs.State.let_go.Goals as goal

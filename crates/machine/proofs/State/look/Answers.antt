@@ -3,7 +3,6 @@ use mathlib.Core.Path.{◌∙◌}
 use native.Mathlib.Numerals.{add-one}
 use native.Mathlib.Nat.{le_refl}
 use borrow.Author.Tests.{lt-ltb, le-ltb, eq-eqb, ne_eqb}
-use borrow.Author.Rules.{rules}
 use Rattle.entries.specs.Sizes.{positions}
 use Rattle.machine.specs.GoOn.{look_of}
 use Rattle.machine.proofs.State.look.Goals as goal

@@ -1,6 +1,5 @@
 -- `read` does what the table says of it. The slot holds an object, so one less than its number is an index.
 use native.Mathlib.Omega.{arith}
-use borrow.Author.Rules.{rules}
 use Rattle.machine.specs.Calls.{read_of}
 use Rattle.machine.proofs.State.read.Goals as goal
 

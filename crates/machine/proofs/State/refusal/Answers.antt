@@ -1,14 +1,14 @@
 -- `refusal` asks the table group by group: 19, then the fields, then the thread, then the objects.
-use Rattle.std.proofs.Common.{◌≡◌, ◌<◌, ℕ, refl, sym, ◌∙◌, true, false, eq-eqb, ne_eqb}
+use Rattle.std.proofs.Common.{◌≡◌, ◌<◌, ℕ, refl, sym, ◌∙◌, true, eq-eqb, ne_eqb}
 use Rattle.basics.specs.Rows.{first_of, NoneApplies, all_from}
 use Rattle.basics.proofs.Rows.{none_applies, stops, goes_on}
 use Rattle.machine.specs.declared.State.{State}
 use Rattle.machine.specs.declared.Call.{Call}
 use Rattle.machine.specs.Parts.{thread_at, slot_at, position_of}
 use Rattle.machine.specs.Soundness.{sound}
-use Rattle.machine.specs.Sound.{Ranged, to_sound, thread_eight, position_fits}
+use Rattle.machine.specs.Sound.{to_sound, thread_eight, position_fits}
 use Rattle.machine.specs.Refusals.{reads_slot, field_rows, thread_rows, object_rows, call_rows, refusal_of}
-use Rattle.machine.specs.Accepted.{FieldsPass, fields_pass, names_slot, refused_unsound, else_the_rest}
+use Rattle.machine.specs.Accepted.{fields_pass, names_slot, refused_unsound, else_the_rest}
 use Rattle.machine.proofs.State.refusal.Goals as goal
 
 -- What each group that was passed says.

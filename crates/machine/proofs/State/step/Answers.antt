@@ -1,6 +1,5 @@
 -- `step` refuses by the table or does the call.
 use borrow.Author.Tests.{eq-eqb, ne_eqb}
-use borrow.Author.Rules.{rules}
 use Rattle.machine.specs.Step.{step_of}
 use Rattle.machine.proofs.State.step.Goals as goal
 

@@ -1,6 +1,5 @@
 -- `swap` does what the table says of it, by whether the link holds what it must.
 use borrow.Author.Tests.{eq-eqb, ne_eqb}
-use borrow.Author.Rules.{rules}
 use Rattle.machine.specs.Calls.{expected, swap_of}
 use Rattle.machine.proofs.State.swap.Goals as goal
 

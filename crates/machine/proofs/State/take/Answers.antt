@@ -1,5 +1,4 @@
 -- `take` does what the table says of it: the next object of the pool goes to the hand, with its tag. There is one, so one less is an index.
-use borrow.Author.Rules.{rules}
 use Rattle.machine.specs.Calls.{take_of}
 use Rattle.machine.proofs.State.take.Goals as goal
 

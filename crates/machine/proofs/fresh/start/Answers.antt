@@ -1,5 +1,4 @@
 -- `start` meets its contract: sizes in range begin with every object free, any others with the blank state.
-use borrow.Author.Rules.{rules}
 use Rattle.machine.specs.Fresh.{fresh_of, blank, start_of}
 use Rattle.machine.proofs.fresh.start.Goals as goal
 

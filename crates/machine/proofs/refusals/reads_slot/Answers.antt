@@ -1,5 +1,4 @@
 -- `reads_slot` is the first half of the test of line 31.
-use borrow.Author.Rules.{rules}
 use Rattle.machine.specs.Refusals.{reads_slot}
 use Rattle.machine.proofs.refusals.reads_slot.Goals as goal
 

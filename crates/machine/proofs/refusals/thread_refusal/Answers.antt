@@ -1,5 +1,4 @@
 -- `thread_refusal` is the lines 26 to 29 in their order.
-use borrow.Author.Rules.{rules}
 use Rattle.basics.specs.Rows.{first_of}
 use Rattle.machine.specs.Refusals.{thread_rows}
 use Rattle.machine.proofs.refusals.thread_refusal.Goals as goal

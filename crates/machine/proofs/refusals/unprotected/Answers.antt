@@ -1,5 +1,4 @@
 -- `unprotected` is the test of line 31; only a call that reads a slot looks at its mark.
-use borrow.Author.Rules.{rules}
 use Rattle.basics.specs.Tests.{refused, passed}
 use Rattle.machine.proofs.refusals.unprotected.Goals as goal
 
@@ -15,7 +14,7 @@ slot_at-held-requires c = rw c.position.ensures
 
 pub returns : goal.returns
 returns c = rw (
-      passed c.reads_slot.ensures c.if-not-reads_slot.false-raw,
-      c.slot_at-held.ensures,
-      c.position.ensures,
-    )
+  passed c.reads_slot.ensures c.if-not-reads_slot.false-raw,
+  c.slot_at-held.ensures,
+  c.position.ensures,
+)

@@ -1,5 +1,4 @@
 -- `unused_not_zero` is the test of line 23.
-use borrow.Author.Rules.{rules}
 use Rattle.machine.specs.Refusals.{unused_not_zero}
 use Rattle.machine.proofs.refusals.unused_not_zero.Goals as goal
 

@@ -26,7 +26,6 @@ use Rattle.machine.specs.Sound.{Shape, from_shape}
 use Rattle.machine.proofs.soundness.parts_sound.Goals as goal
 
 abbrev row : State → List ℕ
-
 row s = row_of s.sizes s.links s.threads s.slots
 
 record Passed (s : State) : Type 0 where
@@ -38,9 +37,7 @@ record Passed (s : State) : Type 0 where
 
 counted : (s : State) → Passed s → (k : ℕ)
     → bit (free_at s (suc k)) + count_under 64 (λ i. eqb (get_or (row s) i 0) (suc k)) ≡ places_holding s (suc k)
-
 unfolding places_holding
-
 counted s passed k =
     let long = passed.shape in
     omega (
@@ -54,18 +51,14 @@ counted s passed k =
 
 once-each : (s : State) → Passed s
     → each_once s.sizes.objects s.pool (row s) ≡ all_under s.sizes.objects (λ k. eqb (places_holding s (suc k)) 1)
-
 unfolding each_once
-
 once-each s passed =
     and_then (le-leb _ _ (bounds _ passed.sizes).objects)
     (under_same _ _ _ (λ k h. ap (λ (m : ℕ). eqb m 1) (counted s passed k)))
 
 decides : (s : State) → Passed s → all_under 240 (λ k. tag_good s.sizes k (get_or s.tags k 0)) ≡ true → length s.pool.marks ≡ 240
     → (all_under 240 (λ k. ltb k s.sizes.objects || not (get_or s.pool.marks k false)) && each_once s.sizes.objects s.pool (row s)) ≡ sound s
-
 unfolding sound pool_good
-
 decides s passed tags long =
     rw (from_shape s passed.shape, passed.sizes, passed.links, passed.threads, passed.slots, tags, eq-eqb _ _ long, once-each s passed)
 
