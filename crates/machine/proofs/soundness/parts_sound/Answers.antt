@@ -1,14 +1,14 @@
 -- `parts_sound` meets its contract: any test that fails decides, and where none does, what is left is whether each object is in one place.
 use Prim.Native.Nat.{ℕ, suc, ◌+◌}
 use native.Mathlib.Omega.{arith}
-use mathlib.Core.Path.{◌≡◌, ap, ◌∙◌}
+use mathlib.Core.Path.{◌≡◌, sym, ap, ◌∙◌}
 use mathlib.Core.Bool.{true, false, not, ◌&&◌, ◌||◌, and-false}
 use mathlib.Core.List.{List}
 use lib.ListN.{length, get_or}
 use lib.Dec.{ltb, eqb}
 use borrow.Author.Tests.{eq-eqb, le-leb}
 use borrow.Author.Rules.{rules}
-use Rattle.basics.specs.Tests.{refused, passed, and_then}
+use Rattle.basics.specs.Tests.{passed, and_then}
 use Rattle.basics.specs.Under.{all_under, under_same, under_at}
 use Rattle.basics.specs.Counts.{bit, count_under}
 use Rattle.entries.specs.Entries.{sizes_good, link_good, thread_good, slot_good, tag_good}
@@ -20,8 +20,7 @@ use Rattle.machine.specs.declared.State.{State}
 use Rattle.machine.specs.Parts.{of_parts, link_at, thread_at, slot_at, free_at}
 use Rattle.machine.specs.Soundness.{places_holding, sound}
 use Rattle.machine.specs.Sound.{Shape, from_shape}
-use Rattle.machine.proofs.soundness.parts_sound.Statement.{statement}
-use Rattle.machine.proofs.soundness.parts_sound.Tie as tie
+use Rattle.machine.proofs.soundness.parts_sound.Goals as goal
 
 -- the numbers of all places but the free ones, within the sizes
 abbrev row : State → List ℕ
@@ -63,68 +62,39 @@ unfolding sound pool_good
 decides s passed tags long =
     rw (from_shape s passed.shape, passed.sizes, passed.links, passed.threads, passed.slots, tags, eq-eqb _ _ long, once-each s passed)
 
-has-shape : (c : tie.Start)
-    → (let a = c.args in
-    Shape (of_parts a.z a.links.now a.threads a.slots a.marks.now a.tags.now))
-has-shape c = record { links = c.requires.0; threads = search rules; slots = search rules; tags = c.requires.2 }
-
-returns : tie.Need-returns
+pub returns-then-not-sizes_good : goal.returns-then-not-sizes_good
 unfolding sound
-returns c = rw (refused c.before.sizes-good.ensures c.if1.true, and-false)
+returns-then-not-sizes_good c = rw (sym c.sizes_good.ensures ∙ c.if-not-sizes_good.true, and-false)
 
-returns-2 : tie.Need-returns-2
+pub returns-then-not-links_good : goal.returns-then-not-links_good
 unfolding sound
-returns-2 c = rw (refused c.before.links-good.ensures c.if2.true, and-false)
+returns-then-not-links_good c = rw (sym c.links_good.ensures ∙ c.if-not-links_good.true, and-false)
 
-returns-3 : tie.Need-returns-3
+pub returns-then-not-threads_good : goal.returns-then-not-threads_good
 unfolding sound
-returns-3 c = rw (refused c.before.threads-good.ensures c.if3.true, and-false)
+returns-then-not-threads_good c = rw (sym c.threads_good.ensures ∙ c.if-not-threads_good.true, and-false)
 
-returns-4 : tie.Need-returns-4
+pub returns-then-not-slots_good : goal.returns-then-not-slots_good
 unfolding sound
-returns-4 c = rw (refused c.before.slots-good.ensures c.if4.true, and-false)
+returns-then-not-slots_good c = rw (sym c.slots_good.ensures ∙ c.if-not-slots_good.true, and-false)
 
-returns-5 : tie.Need-returns-5
+pub returns-then-not-tags_good : goal.returns-then-not-tags_good
 unfolding sound
-returns-5 c = rw (refused c.before.tags-good.ensures c.if5.true, and-false)
+returns-then-not-tags_good c = rw (sym c.tags_good.ensures ∙ c.if-not-tags_good.true, and-false)
 
-returns-6 : tie.Need-returns-6
-returns-6 c =
-    let e5 = c.before.before.before.before in
-    let e4 = e5.before.before in
-    let e3 = e4.before.before in
-    let e2 = e3.before.before in
-    let e1 = e2.before.before in
-    let start = e1.before.before in
-    let a = start.args in
+pub returns : goal.returns
+returns c =
+    let a = c.args in
     let s = of_parts a.z a.links.now a.threads a.slots a.marks.now a.tags.now in
-    c.are-placed.ensures ∙
-    rw c.before.before.row_of.ensures
+    c.are_placed.ensures ∙
+    rw c.row_of-row.ensures
     (decides s
     (record {
-      shape = has-shape start;
-      sizes = passed e1.before.sizes-good.ensures e1.if1.false;
-      links = passed e2.before.links-good.ensures e2.if2.false;
-      threads = passed e3.before.threads-good.ensures e3.if3.false;
-      slots = passed e4.before.slots-good.ensures e4.if4.false;
+      shape = record { links = c.requires.0; threads = search rules; slots = search rules; tags = c.requires.2 };
+      sizes = sym c.sizes_good.ensures ∙ c.if-not-sizes_good.false;
+      links = sym c.links_good.ensures ∙ c.if-not-links_good.false;
+      threads = sym c.threads_good.ensures ∙ c.if-not-threads_good.false;
+      slots = sym c.slots_good.ensures ∙ c.if-not-slots_good.false;
     })
-    (passed e5.before.tags-good.ensures e5.if5.false)
-    start.requires.1)
-
-pub parts_sound_spec : {M : Type 1} → statement M
-parts_sound_spec =
-    tie.close
-    (tie.spec
-    (λ c κs. search rules)
-    returns
-    (λ c κs. search rules)
-    returns-2
-    (λ c κs. search rules)
-    returns-3
-    (λ c κs. search rules)
-    returns-4
-    (λ c κs. search rules)
-    returns-5
-    (λ c κs. search rules)
-    (λ c κs. search rules)
-    returns-6)
+    (sym c.tags_good.ensures ∙ c.if-not-tags_good.false)
+    c.requires.1)
