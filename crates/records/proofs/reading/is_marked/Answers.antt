@@ -1,5 +1,4 @@
 -- `records::reading::is_marked` meets its contract: each test of a byte is one of the two tests of `marked`.
-use borrow.Author.Rules.{rules}
 use borrow.Author.Tests.{eq-eqb, ne_eqb}
 use Rattle.records.specs.Marks.{marked}
 use Rattle.records.proofs.reading.is_marked.Goals as goal

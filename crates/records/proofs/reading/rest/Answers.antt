@@ -1,10 +1,9 @@
 -- `records::reading::rest` meets its contract. Where a record was read, ten bytes stand, so the part ten bytes on is there.
-use borrow.Author.Rules.{rules}
 use mathlib.Core.Path.{sym, ◌∙◌}
 use native.Mathlib.Omega.{arith}
 use Rattle.records.specs.Rest.{rest_after}
-use Rattle.records.specs.Lemmas.Front.{take_rest}
-use Rattle.records.specs.Lemmas.Cases.{read_long, rest_at}
+use Rattle.records.proofs.Lemmas.Front.{take_rest}
+use Rattle.records.proofs.Lemmas.Cases.{read_long, rest_at}
 use Rattle.records.proofs.reading.rest.Goals as goal
 
 pub slice_bounds-result-count : goal.slice_bounds-result-count

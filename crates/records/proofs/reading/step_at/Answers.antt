@@ -1,5 +1,4 @@
 -- `records::reading::step_at` meets its contract, field by field; the tag is what `number` ensures.
-use borrow.Author.Rules.{rules}
 use Rattle.records.specs.Reading.{step_at}
 use Rattle.records.proofs.reading.step_at.Goals as goal
 

@@ -1,10 +1,9 @@
 -- `records::reading::zeros_at_end` meets its contract: each `return` knows of one byte that is not 0, and the last that the other three are.
-use borrow.Author.Rules.{rules}
 use borrow.Author.Tests.{ne_eqb}
 use mathlib.Core.Path.{sym}
 use mathlib.Core.Bool.{and-false}
 use Rattle.records.specs.Reading.{zeros_at_end}
-use Rattle.records.specs.Lemmas.Cases.{zeros_by_last}
+use Rattle.records.proofs.Lemmas.Cases.{zeros_by_last}
 use Rattle.records.proofs.reading.zeros_at_end.Goals as goal
 
 pub returns-then-input-ne0 : goal.returns-then-input-ne0

@@ -1,14 +1,12 @@
 -- `records::writing::put` meets its contract. The invariant: storing what is left from here on gives what storing all would have given.
-use Prim.Native.Nat.{◌-◌, ◌≤◌, ◌<◌}
-use mathlib.Core.Path.{◌≡◌, refl, ◌∙◌}
-use mathlib.Core.List.{[], ◌∷◌}
-use borrow.Author.Rules.{rules}
+use Prim.Native.Nat.{◌<◌}
+use mathlib.Core.Path.{◌≡◌, ◌∙◌}
 use borrow.Author.Tests.{lt-ltb, le-ltb}
 use native.Mathlib.Omega.{arith}
 use native.Mathlib.Numerals.{add-one}
-use lib.ListN.{length, get_or, drop, length-set, drop_of_length-le}
-use lib.Seq.{drop-cons, sets}
-use Rattle.records.specs.Lemmas.Front.{stored}
+use lib.ListN.{length, length-set, drop_of_length-le}
+use lib.Seq.{drop-cons}
+use Rattle.records.proofs.Lemmas.Front.{stored}
 use Rattle.records.specs.Writing.{answer_of, written_of}
 use Rattle.records.proofs.writing.put.Goals as goal
 
