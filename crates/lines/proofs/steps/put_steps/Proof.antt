@@ -12,7 +12,7 @@ use Rattle.schedule.specs.declared.Next.{Next}
 use Rattle.schedule.specs.declared.Next.TheVariants.{Call, End, Stop}
 use Rattle.schedule.specs.Going.{next_of}
 use Rattle.schedule.specs.Asked.{found_from, found_of}
-use Rattle.schedule.specs.Turns.{call_room}
+use Rattle.schedule.proofs.Turns.{call_room}
 use Rattle.lines.specs.Line.{bytes_of, text}
 use Rattle.lines.specs.Run.{step_line, lines_found}
 use Rattle.text.specs.Appending.{Leads, leads_start, leads_on, leads_end}
