@@ -69,10 +69,3 @@ printed =
     numbers (25 ∷ 0 ∷ 1 ∷ 1 ∷ 1 ∷ 0 ∷ []) ∷
     end (25 ∷ 0 ∷ 1 ∷ 1 ∷ 0 ∷ 0 ∷ []) ∷
     []
-
-quickly : quick_lines (input_of schedule) ≡ printed
-unfolding printing schedule printed
-quickly = refl
-
-pub day_run : lines_of schedule ≡ printed
-day_run = lines_quick schedule ∙ quickly

@@ -17,7 +17,7 @@ use Rattle.sentences.specs.Told as told
 use Rattle.promise.specs.Run.{end_of}
 use Rattle.schedule.specs.Input.{Ending, ended, stopped, Input, run, no_run, calls_at, calls_up_to, after, ending_at, sized, begun, input_of}
 use Rattle.printed.specs.Printed.{event_line, event_lines, ending_line, lines_of_run, lines_of_input, sentences_of_input}
-use Rattle.printed.specs.Promise.{lines_are_events, sentences_of_state, sizes_in_range}
+use Rattle.printed.proofs.Promise.{lines_are_events, sentences_of_state, sizes_in_range}
 use Rattle.witness.specs.Unchecked.{unchecked, same_events, same_end}
 
 unfoldable pub quick_lines : Input → List Line

@@ -41,10 +41,3 @@ unfoldable pub said : List ℕ
 said =
     ascii "object 1 was left in the handover of position 1 (thread 1, slot 0), whose hazard is this object, protected; first hazard: position 1 (thread 1, slot 0)\n" ++
     ascii "object 2 is in link 0; no hazard\n"
-
-quickly : quick_sentences (input_of schedule) ≡ said
-unfolding printing first.first_from digits decimal reasons.guard_of reasons.link_with reasons.hand_with reasons.carrier_of reasons.handover_with reasons.reason_of reasons.hazard_at reasons.hazard_of reasons.refusals reasons.refusal_of reasons.why_of ascii filled thread_of slot_of guard_words reason_words hazard_words line_of lines_from lines_of schedule said
-quickly = refl
-
-pub card_told : text_of schedule ≡ said
-card_told = sentences_quick schedule ∙ quickly

@@ -11,6 +11,7 @@ pub record Row : Type 0 where
   pub lines : List Line
 
 infix 15 ◌gives◌
+
 abbrev pub ◌gives◌ : List ℕ → List Line → Row
 input gives lines = record { input = input; lines = lines }
 
@@ -57,10 +58,3 @@ table =
     (sizes ++ take ++ take
     gives first ∷ taken ∷ numbers (2 ∷ 0 ∷ 1 ∷ 28 ∷ 0 ∷ 0 ∷ []) ∷ end (2 ∷ 1 ∷ 0 ∷ 1 ∷ 0 ∷ 0 ∷ []) ∷ []) ∷
     []
-
-quickly : map (λ row. quick_lines (input_of row.input)) table ≡ map (λ row. row.lines) table
-unfolding printing table
-quickly = refl
-
-pub stops : map (λ row. lines_of row.input) table ≡ map (λ row. row.lines) table
-stops = subst⁻¹ (λ (lines : List ℕ → List Line). map (λ row. lines row.input) table ≡ map (λ row. row.lines) table) (fun_ext lines_quick) quickly

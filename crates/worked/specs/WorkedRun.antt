@@ -98,18 +98,3 @@ printed_text =
     50 ∷ 51 ∷ 32 ∷ 48 ∷ 32 ∷ 49 ∷ 32 ∷ 49 ∷ 32 ∷ 49 ∷ 32 ∷ 48 ∷ 10 ∷
     101 ∷ 110 ∷ 100 ∷ 32 ∷ 50 ∷ 51 ∷ 32 ∷ 49 ∷ 32 ∷ 48 ∷ 32 ∷ 49 ∷ 32 ∷ 48 ∷ 32 ∷ 48 ∷ 10 ∷
     []
-
-quickly : quick_lines (input_of schedule) ≡ printed
-unfolding printing schedule printed
-quickly = refl
-
-pub worked_run : lines_of schedule ≡ printed
-worked_run = lines_quick schedule ∙ quickly
-
-in_bytes : text printed ≡ printed_text
-unfolding digits decimal joined ascii bytes_of text printed printed_text
-in_bytes = refl
-
-pub worked_text : text_of schedule ≡ printed_text
-unfolding text_of
-worked_text = ap text worked_run ∙ in_bytes

@@ -20,9 +20,9 @@ use Rattle.reasons.specs.declared.Reason.{Reason}
 use Rattle.reasons.specs.declared.Reason.TheVariants.{Link, Hand, Carried, Handover}
 use Rattle.reasons.specs.Reasons.{guard_of, link_with, hand_with, carrier_of, handover_with, reason_of}
 use Rattle.reasons.specs.Applies.{Stays, Applies}
-use Rattle.reasons.specs.Lemmas.Rows as rows
-use Rattle.reasons.specs.Lemmas.Somewhere.{left_in_handover, links_empty, hands_empty, carry_none, handovers_empty}
-use Rattle.reasons.specs.Lemmas.Guards.{guarding, guard_is}
+use Rattle.reasons.proofs.Lemmas.Rows as rows
+use Rattle.reasons.proofs.Lemmas.Somewhere.{left_in_handover, links_empty, hands_empty, carry_none, handovers_empty}
+use Rattle.reasons.proofs.Lemmas.Guards.{guarding, guard_is}
 
 module _ (s : State) (o : ℕ) (stays : Stays s o) where
   h : Sound s

@@ -19,7 +19,7 @@ use Rattle.machine.specs.Soundness.{places_holding}
 use Rattle.machine.specs.Sound.{Sound}
 use Rattle.laws.specs.OnePlace.{one_place}
 use Rattle.reasons.specs.Reasons.{link_with, hand_with, carrier_of, handover_with}
-use Rattle.reasons.specs.Lemmas.Rows as rows
+use Rattle.reasons.proofs.Lemmas.Rows as rows
 
 module _ (s : State) (h : Sound s) (o : ℕ) (some : 0 < o) where
   pub links_empty : (i : ℕ) → s.sizes.links ≤ i → i < 16 → link_at s i ≡ 0

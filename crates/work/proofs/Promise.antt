@@ -8,7 +8,7 @@ use Rattle.machine.specs.Step.{step_of}
 use Rattle.promise.specs.Run.{state}
 use Rattle.promise.proofs.Moments.{same_sizes, always_sound}
 use Rattle.work.specs.Seven.{Did}
-use Rattle.work.specs.Lemmas.Steps as steps
+use Rattle.work.proofs.Lemmas.Steps as steps
 
 -- Whatever call comes next: if it is answered 3 with a and b, then b is a position that exists, and what a says is what that step changed there.
 pub what_was_done : (z : Sizes) → in_range z ≡ true → (calls : List Call) (next : Call) (a b : ℕ)

@@ -23,9 +23,9 @@ use Rattle.reasons.specs.declared.Hazard.TheVariants.{At, Nowhere}
 use Rattle.reasons.specs.Reasons.{reason_of, hazard_of, why_of}
 use Rattle.reasons.specs.Numbers.{reason_number, reason_a, reason_b, hazard_number, hazard_position, numbers_of, Sheltered}
 use Rattle.reasons.specs.Applies.{Stays, Applies, FirstHazard}
-use Rattle.reasons.specs.Lemmas.Named.{named_applies}
-use Rattle.reasons.specs.Lemmas.Hazards.{first_hazard}
-use Rattle.reasons.specs.Lemmas.Told.{explained}
+use Rattle.reasons.proofs.Lemmas.Named.{named_applies}
+use Rattle.reasons.proofs.Lemmas.Hazards.{first_hazard}
+use Rattle.reasons.proofs.Lemmas.Told.{explained}
 
 module _ (s : State) (p : ℕ) (inside : p < positions s.sizes) (g : Guard s p (slot_at s p).hazard) where
   abbrev o : ℕ

@@ -23,9 +23,9 @@ use Rattle.reasons.specs.declared.Explained.TheVariants.{Kept, Refused}
 use Rattle.reasons.specs.Reasons.{reason_of, hazard_of, refusals, refusal_of, why_of}
 use Rattle.reasons.specs.Numbers.{numbers_of}
 use Rattle.reasons.specs.Applies.{Stays, Applies, FirstHazard}
-use Rattle.reasons.specs.Lemmas.NotRefused.{not_refused}
-use Rattle.reasons.specs.Lemmas.Named.{only_one}
-use Rattle.reasons.specs.Lemmas.Hazards.{only_hazard}
+use Rattle.reasons.proofs.Lemmas.NotRefused.{not_refused}
+use Rattle.reasons.proofs.Lemmas.Named.{only_one}
+use Rattle.reasons.proofs.Lemmas.Hazards.{only_hazard}
 
 pub free_has_none : (s : State) → sound s ≡ true → (o : ℕ) → 0 < o → o ≤ s.sizes.objects → free_at s o ≡ true
     → (r : Reason) → Applies s o r → ⊥
@@ -73,6 +73,7 @@ module _ (s : State) (o : ℕ) where
   number_some k (here on) e = omega arith
   number_some k (later off (here on)) e = omega arith
   number_some k (later off (later off' (here on))) e = omega arith
+  number_some k (later off (later off' (later _ rest))) e = elim rest [ ]
 
   gives : (k : ℕ) → FirstIs (refusals s o) k → why_of s o ≡ Refused k
   unfolding why_of refusal_of

@@ -14,9 +14,9 @@ use Rattle.reasons.specs.declared.Explained.TheVariants.{Kept, Refused}
 use Rattle.reasons.specs.Reasons.{reason_of, hazard_of, refusals, why_of}
 use Rattle.reasons.specs.Numbers.{numbers_of}
 use Rattle.reasons.specs.Applies.{Stays, Applies, NoHazard, FirstHazard}
-use Rattle.reasons.specs.Lemmas.Named as named
-use Rattle.reasons.specs.Lemmas.Hazards as hazards
-use Rattle.reasons.specs.Lemmas.Told as told
+use Rattle.reasons.proofs.Lemmas.Named as named
+use Rattle.reasons.proofs.Lemmas.Hazards as hazards
+use Rattle.reasons.proofs.Lemmas.Told as told
 
 -- "Exactly one reason applies to an object that is not free": the one that is named does, and any that does is that one.
 pub one_reason : (s : State) (o : ℕ) → Stays s o

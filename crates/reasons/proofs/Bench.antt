@@ -7,7 +7,7 @@ use Rattle.machine.specs.Parts.{slot_at}
 use Rattle.promise.specs.Run.{state}
 use Rattle.reasons.specs.Reasons.{why_of}
 use Rattle.reasons.specs.Numbers.{numbers_of, Sheltered}
-use Rattle.reasons.specs.Lemmas.Runs as runs
+use Rattle.reasons.proofs.Lemmas.Runs as runs
 
 -- for all sizes in range, any calls in any order, and every slot with the mark on
 pub protected_is_sheltered : (z : Sizes) → in_range z ≡ true → (calls : List Call) (p : ℕ) → p < positions z
