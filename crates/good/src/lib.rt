@@ -1,5 +1,6 @@
 // Whether the entries of a state are good: in range within the sizes, and 0, idle or unmarked beyond them.
 #![tactic(auto)]
+
 mod good;
 mod ranges;
 

@@ -1,5 +1,6 @@
 // What stands in the places of a state: how many objects in the places of a kind, and the numbers of all of them in one row.
 #![tactic(auto)]
+
 mod counting;
 mod row;
 

@@ -1,6 +1,6 @@
 -- The test of a good pool with its marks walked once, so that runs are computed in seconds. Nothing here has to be believed: it is shown to be
 -- the definition's own test.
-use Rattle.std.specs.Prelude.{ℕ, ◌≡◌, refl, Bool, false, not, ◌&&◌, ◌||◌, length, get_or, ltb, eqb}
+use Rattle.std.specs.Prelude.{ℕ, ◌≡◌, Bool, false, not, ◌&&◌, ◌||◌, length, ltb, eqb}
 use Rattle.pool.specs.declared.Pool.{Pool}
 use Rattle.basics.specs.Under.{walked, under_list}
 use Rattle.pool.specs.Pool.{pool_good}

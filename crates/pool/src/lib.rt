@@ -1,6 +1,7 @@
 // The pool: which objects are free, and which is handed out next. Nothing above it sees how that is kept, but that the soundness check lends
 // its marks.
 #![tactic(auto)]
+
 mod marks;
 
 ghost use Rattle.std.specs.Prelude.{◌≡◌, false, not, ◌&&◌, ◌||◌, ◌≤◌, get_or, ltb};

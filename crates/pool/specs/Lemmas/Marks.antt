@@ -1,7 +1,7 @@
 -- A good pool's marks by their numbers: what is on in a fresh one, what one store changes, and their sum.
 use Prim.Native.Nat.{ℕ, zero, suc, ◌+◌, ◌-◌, ◌<◌, ◌≤◌}
 use native.Mathlib.Omega.{arith}
-use Rattle.std.specs.Prelude.{◌≡◌, refl, Bool, not, ◌||◌, List, ◌++◌, set, ltb, leb, eqb}
+use Rattle.std.specs.Prelude.{◌≡◌, refl, Bool, not, ◌||◌, ◌++◌, set, ltb}
 use Rattle.std.proofs.Common.{sym, ap, ◌∙◌, length-append, length-set, get_or-append-add, get_or-set_same, get_or-set_other, eqb-true, eq-eqb, le-leb, lt-ltb, le-ltb, ltb-true, ltb-false}
 use Rattle.std.proofs.Math.Path.{subst}
 use Rattle.std.proofs.Math.Bool.{true, false}
@@ -9,11 +9,11 @@ use Rattle.std.proofs.lemmas.Bool.{false≢true, not-true}
 use Rattle.std.proofs.Math.ListN.{length, get_or, replicate, length-replicate, get_or-replicate, get_or-append, get_or-eq_default}
 use Rattle.std.proofs.Math.Seq.{set_out}
 use Rattle.pool.specs.declared.Pool.{Pool}
-use Rattle.basics.specs.Tests.{by_test, same_or_not, ands, and_i}
+use Rattle.basics.specs.Tests.{by_test, ands, and_i}
 use Rattle.basics.specs.Counts.{bit}
-use Rattle.basics.specs.Under.{all_under, under_at, under_all}
+use Rattle.basics.specs.Under.{under_at, under_all}
 use Rattle.basics.specs.Lists.{Each, each_set, all_same}
-use Rattle.basics.specs.Sums.{sum_to, sum_same, sum_marks}
+use Rattle.basics.specs.Sums.{sum_to, sum_marks}
 use Rattle.pool.specs.Pool.{is_free, marked, fresh_pool, taken_out, put_back, free_count, pool_good, pool_of}
 
 -- a mark beyond n is off
