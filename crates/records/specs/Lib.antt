@@ -5,5 +5,4 @@ pub mod Rest
 pub mod Writing
 pub mod Numbers
 pub mod EitherKind
-pub mod Lemmas
 pub mod Promise

@@ -1,6 +1,7 @@
 // Schedule records: ten bytes each, read from the front of an input and written to the front of a buffer.
 // The types stand here; `reading` reads a record and gives the rest of the input, `writing` writes one.
 #![tactic(auto)]
+
 pub mod reading;
 pub mod writing;
 

@@ -1,7 +1,7 @@
 -- What the contract of a function that puts bytes says where there is room, and where there is not.
-use Rattle.std.specs.Prelude.{ℕ, ◌+◌, ◌≤◌, ◌<◌, ◌≡◌, List, length}
+use Rattle.std.specs.Prelude.{ℕ, ◌+◌, ◌≤◌, ◌<◌, List, length}
 use borrow.Author.Tests.{lt-ltb, le-ltb}
-use Rattle.text.specs.Written.{written, Appended, place_after, buffer_after, Put}
+use Rattle.text.specs.Written.{Appended, place_after, buffer_after, Put}
 
 module _ {room place : ℕ} {bytes before : List ℕ} where
   -- where there is room, the bytes are written

@@ -11,9 +11,9 @@ use Rattle.records.specs.Reading.{sizes_at, step_at, zeros_at_end, read_of}
 use Rattle.records.specs.Rest.{rest_after, rest_of}
 use Rattle.records.specs.Writing.{written_of}
 use Rattle.records.specs.EitherKind.{record_bytes, GoodRecord}
-use Rattle.records.specs.Lemmas.Digits.{byte_at, low_bytes, run_bytes, number_of_low, low_of_number, number_small}
-use Rattle.records.specs.Lemmas.Front.{run, run_front}
-use Rattle.records.specs.Lemmas.Cases.{both, mark_at, reads_sizes, reads_step, rest_at, Case, sizes, step, at_end_lem, refused, case_of}
+use Rattle.records.proofs.Lemmas.Digits.{byte_at, low_bytes, run_bytes, number_of_low, low_of_number, number_small}
+use Rattle.records.proofs.Lemmas.Front.{run, run_front}
+use Rattle.records.proofs.Lemmas.Cases.{both, mark_at, reads_sizes, reads_step, rest_at, Case, sizes, step, at_end_lem, refused, case_of}
 
 -- ---- a record's bytes, with anything after them
 

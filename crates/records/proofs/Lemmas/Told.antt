@@ -7,7 +7,7 @@ use Rattle.records.specs.declared.Written.{Written}
 use Rattle.records.specs.declared.Written.TheVariants as written
 use Rattle.records.specs.Numbers.{numbers_of, numbers_of_written}
 use Rattle.records.specs.Reading.{read_of}
-use Rattle.records.specs.Lemmas.Cases.{reads_short}
+use Rattle.records.proofs.Lemmas.Cases.{reads_short}
 
 -- the answer again from its numbers; lists of another length are no answer's
 abbrev answer_from : List ℕ → Read

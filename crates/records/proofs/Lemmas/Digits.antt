@@ -2,7 +2,7 @@
 use Rattle.std.specs.Prelude.{ℕ, zero, suc, ◌+◌, ◌*◌, ◌/◌, ◌%◌, ◌^◌, ◌<◌, ◌≡◌, refl, List, [], ◌∷◌, length, get_or}
 use Rattle.std.proofs.Common.{ap, pow-suc, arith, lit<}
 use Rattle.records.specs.Bytes.{AllBytes, low_first, number_of}
-use Rattle.records.specs.Lemmas.Front.{run}
+use Rattle.records.proofs.Lemmas.Front.{run}
 
 pub byte_at : (bs : List ℕ) → AllBytes bs → (i : ℕ) → get_or bs i 0 < 256
 byte_at [] all i = lit< tt
