@@ -13,8 +13,8 @@ use Rattle.schedule.specs.declared.Next.TheVariants as next
 use Rattle.schedule.specs.Going.{next_of}
 use Rattle.schedule.specs.Opening.{opened_of}
 use Rattle.schedule.specs.Asked.{found_at, found_from, found_of, found_in}
-use Rattle.schedule.specs.Promise.{asking_finds}
-use Rattle.schedule.specs.Turns.{found_next, good_says, refused_says}
+use Rattle.schedule.proofs.Promise.{asking_finds}
+use Rattle.schedule.proofs.Turns.{found_next, good_says, refused_says}
 use Rattle.lines.specs.Line.{Line, bytes_of, text}
 use Rattle.lines.specs.Run.{sizes_line, step_line, end_line, stop_line, last_line, lines_from, lines_in, lines_of, text_of, lines_found}
 

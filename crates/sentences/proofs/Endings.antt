@@ -13,8 +13,8 @@ use Rattle.schedule.specs.declared.Next.TheVariants as next
 use Rattle.schedule.specs.Going.{next_of}
 use Rattle.schedule.specs.Asked.{found_at, found_from, found_of, found_in}
 use Rattle.schedule.specs.Opening.{opened_of}
-use Rattle.schedule.specs.Promise.{asking_finds}
-use Rattle.schedule.specs.Turns.{found_next, good_says, refused_says}
+use Rattle.schedule.proofs.Promise.{asking_finds}
+use Rattle.schedule.proofs.Turns.{found_next, good_says, refused_says}
 use Rattle.sentences.specs.Ends.{ended, stopped, end_at, end_found, end_in, end_of}
 
 module _ (steps : ℕ) (s : State) (left : List ℕ) (l : steps ≤ 6000) where

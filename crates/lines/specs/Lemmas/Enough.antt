@@ -3,7 +3,7 @@ use Rattle.std.specs.Prelude.{ℕ, ◌<◌, ◌≡◌, List, [], ◌∷◌, map,
 use Rattle.std.proofs.Common.{arith, length-append}
 use Rattle.machine.specs.Fresh.{fresh_of}
 use Rattle.schedule.specs.Input.{Input, run, no_run, input_of, input_for_all}
-use Rattle.schedule.specs.Promise as schedule
+use Rattle.schedule.proofs.Promise as schedule
 use Rattle.text.specs.Decimal.{decimal}
 use Rattle.text.specs.Fields.{joined}
 use Rattle.basics.specs.Ascii.{ascii}

@@ -1,7 +1,7 @@
 -- Bytes past those that a run can look at make no difference to how it ends.
 use Rattle.std.specs.Prelude.{ℕ, ◌≡◌, List, take}
 use Rattle.schedule.specs.Input.{input_for_all}
-use Rattle.schedule.specs.Promise as schedule
+use Rattle.schedule.proofs.Promise as schedule
 use Rattle.sentences.specs.Ends.{end_of}
 use Rattle.sentences.specs.Told.{text_of}
 

@@ -8,7 +8,7 @@ use lib.ListN.{length}
 use Rattle.schedule.specs.declared.Next.TheVariants.{Call}
 use Rattle.schedule.specs.Going.{next_of}
 use Rattle.schedule.specs.Asked.{found_from, found_of}
-use Rattle.schedule.specs.Turns.{call_room}
+use Rattle.schedule.proofs.Turns.{call_room}
 use Rattle.sentences.specs.Ends.{end_found}
 use Rattle.sentences.specs.Told.{text_at}
 use Rattle.text.specs.Nothing.{nothing}

@@ -7,9 +7,9 @@ use Rattle.records.specs.Rest.{rest_of}
 use Rattle.schedule.specs.Input.{calls_up_to, after, Ending, run, no_run, input_of, input_for_all}
 use Rattle.schedule.specs.Opening.{opened, unopened, opened_of}
 use Rattle.schedule.specs.Asked.{found_of, found_in}
-use Rattle.schedule.specs.Lemmas.Asked as asked
-use Rattle.schedule.specs.Lemmas.Begun as begun
-use Rattle.schedule.specs.Lemmas.Enough as enough
+use Rattle.schedule.proofs.Lemmas.Asked as asked
+use Rattle.schedule.proofs.Lemmas.Begun as begun
+use Rattle.schedule.proofs.Lemmas.Enough as enough
 
 -- From any bytes: asking finds the calls of the step records at their front, 6,000 at most, what stands after those, and the bytes there.
 pub asking_finds : (bytes : List ℕ) → found_of bytes ≡ found_in bytes (calls_up_to 6000 bytes)

@@ -14,7 +14,7 @@ use Rattle.schedule.specs.Said.{sizes_of}
 use Rattle.schedule.specs.Input.{after, Ending, Input, run, no_run, sized, begun, input_of}
 use Rattle.schedule.specs.Opening.{opened, unopened, opened_by, opened_of}
 use Rattle.schedule.specs.Asked.{found_of, found_in}
-use Rattle.schedule.specs.Lemmas.Asked.{asked}
+use Rattle.schedule.proofs.Lemmas.Asked.{asked}
 
 -- what the first record opens and what is found after it are what the input says
 abbrev Fits : Input → Started → List ℕ → Type 0
