@@ -1,4 +1,3 @@
--- Request 2, "A slot in daily use that never clears". To believe: Swept. To read: Promise.
+-- Request 2, "A slot in daily use that never clears". To believe: Swept. To read: proofs/Promise.
 pub mod Swept
-pub mod Promise
-pub mod Lemmas
+pub mod StepsLeft

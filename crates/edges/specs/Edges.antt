@@ -3,17 +3,14 @@
 -- nothing and answers 3, so that a protect has 3 twice: "the run in document 01 gets one go on more after steps 4 and 7, and edge 9 a second 3".
 -- By request 7 a 3 says what was done and at which position p: 3 1 p and 3 7 p in a protect, 3 3 p and 3 4 p in looks without and with a match,
 -- 3 6 p in a drain that found something.
-use Rattle.std.specs.Prelude.{ℕ, ◌≡◌, refl, List, [], ◌∷◌, ◌++◌, map, replicate}
-use Rattle.std.proofs.Math.Path.{subst⁻¹}
+use Rattle.std.specs.Prelude.{ℕ, ◌≡◌, List, [], ◌∷◌, ◌++◌, map, replicate}
 use Rattle.machine.specs.declared.State.{State}
 use Rattle.machine.specs.declared.Counted.{Counted}
 use Rattle.machine.specs.Fresh.{start_of}
-use Rattle.machine.specs.Step.{done_of, step_of}
+use Rattle.machine.specs.Step.{step_of}
 use Rattle.machine.specs.Count.{count_of}
-use Rattle.edges.specs.Lemmas.Computing.{computing}
-use Rattle.edges.specs.Runs.{sizes, call, on, one, four, six, zeros, Machine, printed, lines_from}
-use Rattle.edges.specs.Lemmas.Quick.{quickly, quick_count, step_is_quick, count_is_quick, quick_computes}
-use Rattle.edges.specs.Pictures.{phase_numbers, thread_numbers, slot_numbers, free_numbers, picture, start_picture}
+use Rattle.edges.specs.Runs.{sizes, call, on, one, four, six, zeros, Machine, printed}
+use Rattle.edges.specs.Pictures.{start_picture}
 use Rattle.edges.specs.Bytes.{largest_tag, read_picture, written_picture}
 
 -- a row: the edge's number in document 01, what the definitions give, and what document 01 says
@@ -271,20 +268,3 @@ edges = edges_of step_of count_of
 
 abbrev pub Agree : List Edge → Type 0
 Agree rows = map (λ row. row.computed) rows ≡ map (λ row. row.expected) rows
-
-agree_quickly : Agree (edges_of (quickly done_of) quick_count)
-unfolding edges_of computing quick_computes printed lines_from phase_numbers thread_numbers slot_numbers free_numbers picture start_picture read_picture written_picture
-agree_quickly = refl
-
--- The twelve are all there.
-pub twelve_edges : map (λ row. row.number) edges ≡ 1 ∷ 2 ∷ 3 ∷ 4 ∷ 5 ∷ 6 ∷ 7 ∷ 8 ∷ 9 ∷ 10 ∷ 11 ∷ 12 ∷ []
-unfolding edges edges_of
-twelve_edges = refl
-
--- Every edge is as document 01 says, with request 2's steps and request 7's numbers.
-pub edges_hold : map (λ row. row.computed) edges ≡ map (λ row. row.expected) edges
-unfolding edges
-edges_hold =
-    subst⁻¹ (λ (machine : Machine). Agree (edges_of machine count_of))
-    step_is_quick
-    (subst⁻¹ (λ (count : State → Counted). Agree (edges_of (quickly done_of) count)) count_is_quick agree_quickly)

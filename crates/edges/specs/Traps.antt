@@ -1,19 +1,15 @@
 -- Document 01, "Traps": calls from a fresh machine on which each changed rule fails, computed. By request 2 a protect has three go ons, where
 -- the link is as it was: one publishes, one takes what is in the slot's handover along (nothing, in these calls), and one reads the link again.
-use Rattle.std.specs.Prelude.{ℕ, suc, ◌≡◌, refl, ◌&&◌, List, [], ◌∷◌, ◌++◌, map, eqb, drop}
-use Rattle.std.proofs.Math.Path.{subst⁻¹, fun_ext}
+use Rattle.std.specs.Prelude.{ℕ, suc, ◌≡◌, ◌&&◌, List, [], ◌∷◌, ◌++◌, map, eqb, drop}
 use Rattle.entries.specs.declared.Sizes.{Sizes}
 use Rattle.machine.specs.declared.State.{State}
 use Rattle.machine.specs.declared.Call.{Call}
 use Rattle.machine.specs.Parts.{free_at}
-use Rattle.machine.specs.Step.{done_of, step_of}
 use Rattle.basics.specs.Counts.{how_many}
 use Rattle.entries.specs.Entries.{is_object}
-use Rattle.edges.specs.Lemmas.Computing.{computing}
 use Rattle.edges.specs.Runs.{six, sizes, call, on, Machine, started, step_line}
-use Rattle.edges.specs.Lemmas.Quick.{quickly, slow_is_quick, step_is_quick, quick_computes}
-use Rattle.edges.specs.Rules.{Change, base, when_loaded, when_draining, when_look, when_swap, done_by, machine_of}
-use Rattle.edges.specs.TrapRules.{hand_over_and_move_on, moves_on, publish_and_mark, marks_at_once, drain_at_clear, zero_after_drain, drains_first, look_by, last_met, frees_at_last, skips_own}
+use Rattle.edges.specs.Rules.{Change, base}
+use Rattle.edges.specs.TrapRules.{moves_on, marks_at_once, drains_first, frees_at_last, skips_own}
 
 -- how many protected slots hold an object that is free: what must never be
 unfoldable pub free_yet_protected : State → ℕ
@@ -205,17 +201,6 @@ pub record AreTraps (changed : Change → Machine) (machine : Machine) : Type 0 
   pub fail : map (λ trap. shown_on (changed trap.rules) trap) traps ≡ map foretold traps
   pub hold : map (λ trap. drop 1 (shown_on machine trap)) traps ≡ map (λ trap. (0 ∷ 0 ∷ []) ∷ []) traps
 
-shown_quickly : AreTraps (λ rules. quickly (done_by rules)) (quickly done_of)
-unfolding traps moving_on marking_at_once draining_first freeing_at_last skipping_own shown_on foretold end_of free_yet_protected left_behind when_loaded when_draining when_look when_swap done_by hand_over_and_move_on publish_and_mark drain_at_clear zero_after_drain look_by last_met computing quick_computes
-shown_quickly = record { fail = refl; hold = refl }
-
-pub traps_are_traps : AreTraps machine_of step_of
-unfolding machine_of
-traps_are_traps =
-    subst⁻¹ (λ (changed : Change → Machine). AreTraps changed step_of)
-    (fun_ext (λ rules. slow_is_quick (done_by rules)))
-    (subst⁻¹ (λ (machine : Machine). AreTraps (λ rules. quickly (done_by rules)) machine) step_is_quick shown_quickly)
-
 -- The order of clear does not keep every object from being left behind: thread 0 has met the hazard when thread 1 zeroes and drains, and swaps
 -- after that. So by the machine's own rules too an object may stay in the handover of an idle thread's slot, until that slot is cleared
 -- or a protect publishes in it.
@@ -249,11 +234,3 @@ swap_after_drain =
       freed = 0;
       left = 1;
     }
-
-left_behind_quickly : shown_on (quickly done_of) swap_after_drain ≡ foretold swap_after_drain
-unfolding swap_after_drain shown_on foretold end_of free_yet_protected left_behind computing quick_computes
-left_behind_quickly = refl
-
-pub left_behind_all_the_same : shown_on step_of swap_after_drain ≡ foretold swap_after_drain
-left_behind_all_the_same =
-    subst⁻¹ (λ (machine : Machine). shown_on machine swap_after_drain ≡ foretold swap_after_drain) step_is_quick left_behind_quickly

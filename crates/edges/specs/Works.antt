@@ -1,16 +1,9 @@
 -- Request 7, "Say what "Working" did": one run in which a 3 says each of the seven, computed. The edges have no failed second read and no swap that
 -- displaces. What is expected was worked out from the texts of document 01 and of requests 2 and 7. Each thread has two slots and uses its slot
 -- 1, so the positions concerned are 1 for thread 0 and 3 for thread 1, and those that a scan looks at are 0 to 3.
-use Rattle.std.specs.Prelude.{ℕ, ◌≡◌, refl, List, [], ◌∷◌}
-use Rattle.std.proofs.Math.Path.{subst⁻¹}
-use Rattle.machine.specs.declared.State.{State}
+use Rattle.std.specs.Prelude.{ℕ, List, [], ◌∷◌}
 use Rattle.machine.specs.declared.Call.{Call}
-use Rattle.machine.specs.declared.Counted.{Counted}
-use Rattle.machine.specs.Step.{done_of, step_of}
-use Rattle.machine.specs.Count.{count_of}
-use Rattle.edges.specs.Lemmas.Computing.{computing}
-use Rattle.edges.specs.Lemmas.Quick.{quickly, quick_count, step_is_quick, count_is_quick, quick_computes}
-use Rattle.edges.specs.Runs.{sizes, call, on, four, six, Machine, printed, lines_from}
+use Rattle.edges.specs.Runs.{call, on, four, six}
 
 unfoldable pub calls : List Call
 calls =
@@ -115,13 +108,3 @@ said =
     six 44 1 7 5 0 0 ∷
     six 44 2 0 0 0 0 ∷
     []
-
-quickly_said : printed (quickly done_of) quick_count (sizes 2 2 1 2) calls ≡ said
-unfolding calls said computing quick_computes printed lines_from
-quickly_said = refl
-
-pub works_are_said : printed step_of count_of (sizes 2 2 1 2) calls ≡ said
-works_are_said =
-    subst⁻¹ (λ (machine : Machine). printed machine count_of (sizes 2 2 1 2) calls ≡ said)
-    step_is_quick
-    (subst⁻¹ (λ (count : State → Counted). printed (quickly done_of) count (sizes 2 2 1 2) calls ≡ said) count_is_quick quickly_said)

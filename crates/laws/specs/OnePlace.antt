@@ -1,11 +1,11 @@
 -- An object of a sound state that is in one place is in no other.
-use Rattle.std.specs.Prelude.{ℕ, suc, ◌-◌, ◌<◌, ◌≤◌, ◌≡◌, true, false}
+use Rattle.std.specs.Prelude.{ℕ, suc, ◌-◌, ◌<◌, ◌≤◌, ◌≡◌, false}
 use native.Mathlib.Omega.{arith}
 use Rattle.std.proofs.Common.{subst}
 use Rattle.machine.specs.declared.State.{State}
 use Rattle.entries.specs.declared.Slot.{Slot}
 use Rattle.entries.specs.declared.Thread.{Thread}
-use Rattle.basics.specs.Counts.{bit, occurrences, bit_off, one_there}
+use Rattle.basics.specs.Counts.{occurrences, bit_off, one_there}
 use Rattle.entries.specs.Sizes.{positions}
 use Rattle.entries.specs.Entries.{idle_thread, empty_slot}
 use Rattle.entries.specs.Phases.{carried_by}

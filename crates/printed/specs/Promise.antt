@@ -4,7 +4,8 @@ use Rattle.entries.specs.declared.Sizes.{Sizes}
 use Rattle.entries.specs.Sizes.{in_range}
 use Rattle.machine.specs.declared.Call.{Call}
 use Rattle.machine.specs.Step.{step_of}
-use Rattle.promise.specs.Promise.{Promised, promise}
+use Rattle.promise.specs.Promise.{Promised}
+use Rattle.promise.proofs.Promise.{promise}
 use Rattle.lines.specs.Line.{Line, numbers, end}
 use Rattle.lines.specs.Run.{lines_of}
 use Rattle.sentences.specs.Told as told

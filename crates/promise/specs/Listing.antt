@@ -1,6 +1,6 @@
 -- "Calls are listed at these moments: take, swap, read, retire and clear when accepted; protect when it answers 4 or 5." "Refused calls and
 -- unfinished protects are not listed." Worked out from the calls and their answers: no state is looked at.
-use Rattle.std.specs.Prelude.{ℕ, cond, ◌||◌, List, [], ◌∷◌, ◌++◌, map, eqb}
+use Rattle.std.specs.Prelude.{cond, ◌||◌, List, [], ◌∷◌, ◌++◌, map, eqb}
 use Rattle.machine.specs.declared.Call.{Call}
 use Rattle.machine.specs.Answers.{Numbers, numbers_of}
 use Rattle.promise.specs.Store.{PlainCall, take, protect, swap, read, retire, clear}

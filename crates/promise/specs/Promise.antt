@@ -1,12 +1,12 @@
 -- Demand 3. For all sizes in range and any calls in any order, each on the state that the last one handed back, from the fresh machine.
--- `Promised` says it of whatever machine takes the steps; `promise` is that document 01's keeps it, and crate `witness` has machines that do not.
+-- `Promised` says it of whatever machine takes the steps; `promise`, in proofs/Promise, is that document 01's keeps it, and crate `witness` has
+-- machines that do not.
 use Rattle.std.specs.Prelude.{ℕ, ◌+◌, ◌*◌, ◌-◌, ◌<◌, ◌≤◌, ◌≡◌, true, List}
 use Rattle.entries.specs.declared.Sizes.{Sizes}
 use Rattle.machine.specs.declared.Call.{Call}
 use Rattle.machine.specs.declared.Answer.TheVariants.{Refused, Freed}
-use Rattle.entries.specs.Sizes.{in_range, positions}
+use Rattle.entries.specs.Sizes.{positions}
 use Rattle.machine.specs.Parts.{slot_at}
-use Rattle.machine.specs.Step.{step_of}
 use Rattle.machine.specs.Count.{five_places}
 use Rattle.basics.specs.Counts.{how_many}
 use Rattle.promise.specs.Store.{empty_store, store_says}
@@ -17,7 +17,6 @@ use Rattle.promise.specs.Listing.{listing, machine_says}
 use Rattle.promise.specs.Holdings.{SameHoldings, SameRecords, Unheld, waiting, renewals, hands_out}
 use Rattle.promise.specs.GivenUp.{SameGivenUp}
 use Rattle.promise.specs.Run.{events_of, end_of, memory_of, store_of, reading_of, given_of}
-use Rattle.promise.specs.Lemmas.Parts as parts
 
 pub record Promised (machine : Machine) (z : Sizes) (calls : List Call) : Type 0 where
   -- the store, given the listed calls in their order, answers each as the machine did
@@ -49,18 +48,3 @@ pub record Promised (machine : Machine) (z : Sizes) (calls : List Call) : Type 0
       → ((slot_at (state_by machine (end_of machine z calls) more) p).mark ≡ true)
       × ((slot_at (state_by machine (end_of machine z calls) more) p).hazard ≡ (slot_at (end_of machine z calls) p).hazard)
       × (how_many (hands_out (slot_at (end_of machine z calls) p).hazard) (history_by machine (end_of machine z calls) more) ≡ 0)
-
-pub promise : (z : Sizes) → in_range z ≡ true → (calls : List Call) → Promised step_of z calls
-promise z h calls =
-    record {
-      same_answers = parts.same_answers z h calls;
-      same_holdings = parts.same_holdings z h calls;
-      same_records = parts.same_records z h calls;
-      given_up = parts.given_up z h calls;
-      as_many = parts.as_many z h calls;
-      bound = parts.bound z h calls;
-      five_places_lem = parts.five_places_lem z h calls;
-      never_unsound = parts.never_unsound z h calls;
-      freed_unheld = parts.freed_unheld z h calls;
-      protected_kept = parts.protected_kept z h calls;
-    }

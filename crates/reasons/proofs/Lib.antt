@@ -1,4 +1,7 @@
--- Lemmas that several functions' proofs cite.
+-- To read: Promise and Bench, what is promised of the reasons. The other lemmas lead there, or several functions' proofs cite them.
+pub mod Promise
+pub mod Bench
+pub mod Lemmas
 pub mod Outside
 pub mod Scan
 pub mod Picks

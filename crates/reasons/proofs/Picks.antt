@@ -11,8 +11,8 @@ use Rattle.machine.specs.Sound.{to_sound, limits}
 use Rattle.reasons.specs.declared.Guard.{Guard}
 use Rattle.reasons.specs.declared.Reason.TheVariants.{Link, Hand, Carried, Handover}
 use Rattle.reasons.specs.Reasons.{guard_of, link_with, hand_with, carrier_of, handover_with, reason_of, refusal_of}
-use Rattle.reasons.specs.Lemmas.NotRefused.{stays}
-use Rattle.reasons.specs.Lemmas.Somewhere.{left_in_handover}
+use Rattle.reasons.proofs.Lemmas.NotRefused.{stays}
+use Rattle.reasons.proofs.Lemmas.Somewhere.{left_in_handover}
 
 module _ (s : State) (o : ℕ) where
   pub limited : refusal_of s o ≡ 0 → Bounds s.sizes

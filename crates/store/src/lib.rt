@@ -1,6 +1,7 @@
 // 01's plain store: "It keeps links, hands and slots, and makes a new record at each take, never discarding one."
 // A record is the number of its take, from 1; 0 is no record. A schedule run beside it has at most 255 takes.
 #![tactic(auto)]
+
 use plain::{Order, Raw, Said};
 
 // `last` has for each object "the take that last handed it out", and `slot_of` and `link_of` what each thread's last

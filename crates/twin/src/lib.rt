@@ -3,6 +3,7 @@
 // It keeps one place for each object, where the first machine keeps one object for each place. So no object can be in two
 // places here, and what stands in a link or a hand is found by a search over the objects.
 #![tactic(auto)]
+
 mod calls;
 mod exchange;
 mod go_on;

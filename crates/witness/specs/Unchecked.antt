@@ -15,10 +15,10 @@ use Rattle.machine.specs.Calls.{outcome}
 use Rattle.machine.specs.Refusals.{call_rows}
 use Rattle.machine.specs.Accepted.{else_the_rest}
 use Rattle.machine.specs.Step.{done_of, step_of}
-use Rattle.laws.specs.Promise.{fresh_is_sound, step_keeps_sound}
+use Rattle.laws.proofs.Promise.{fresh_is_sound, step_keeps_sound}
 use Rattle.promise.specs.History.{Machine, history_by, state_by, history, state_after}
 use Rattle.promise.specs.Run.{events, state}
-use Rattle.promise.specs.Moments.{always_sound}
+use Rattle.promise.proofs.Moments.{always_sound}
 
 unfoldable pub unchecked : Machine
 unchecked s c =

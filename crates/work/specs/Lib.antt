@@ -1,4 +1,2 @@
--- Request 7, "Say what Working did". To believe: Seven. To read: Promise.
+-- Request 7, "Say what Working did". To believe: Seven. To read: proofs/Promise.
 pub mod Seven
-pub mod Promise
-pub mod Lemmas

@@ -11,7 +11,8 @@ use Rattle.machine.specs.Count.{five_places}
 use Rattle.promise.specs.History.{Event, is_retire, is_freed, retires, freed}
 use Rattle.promise.specs.Run.{events, state}
 use Rattle.machine.specs.Step.{step_of}
-use Rattle.promise.specs.Promise.{Promised, promise}
+use Rattle.promise.specs.Promise.{Promised}
+use Rattle.promise.proofs.Promise.{promise}
 use Rattle.lines.specs.Line.{Line, numbers, end}
 use Rattle.lines.specs.Run.{lines_of}
 use Rattle.schedule.specs.Input.{Ending, ended, stopped, Input, run, no_run, input_of}

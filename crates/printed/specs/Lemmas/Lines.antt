@@ -11,7 +11,7 @@ use Rattle.machine.specs.Count.{count_of}
 use Rattle.machine.specs.Step.{step_of}
 use Rattle.promise.specs.History.{history_by, state_by, history, state_after}
 use Rattle.promise.specs.Run.{events, state}
-use Rattle.promise.specs.Moments.{always_sound}
+use Rattle.promise.proofs.Moments.{always_sound}
 use Rattle.schedule.specs.Input.{Ending, ended, stopped, Input, run, no_run, input_of}
 use Rattle.lines.specs.Run.{sizes_line, step_line, end_line, stop_line, last_line, lines_from, lines_in, lines_of}
 use Rattle.printed.specs.Printed.{event_line, event_lines, ending_line, lines_of_run, lines_of_input}

@@ -1,5 +1,0 @@
--- Lemmas nobody needs to read. What they lead to is stated in Promise.
-pub mod Steps
-pub mod Sweep
-pub mod Scan
-pub mod Found

@@ -1,0 +1,3 @@
+-- What holds of every call. To read: Promise. The Lemmas only lead to it.
+pub mod Promise
+pub mod Lemmas
