@@ -1,14 +1,15 @@
 // Runs the schedule on standard input and writes its lines to standard output.
 #![tactic(auto)]
-use libc::{STDIN_FILENO, STDOUT_FILENO};
 
-fn main() {
+use input::read_full;
+
+fn main(rt: HostRuntime) {
     // a sizes record, 6,000 steps and the record after them: no later byte can change a line
     let mut input = [0u8; lines::INPUT];
     // room for every run, as `lines::run` asks
     let mut out = [0u8; lines::ROOM];
-    let got = io::read_full(STDIN_FILENO, &mut input);
+    let got = read_full(&mut rt.stdin(), &mut input);
     let n = lines::run(&input[..got], &mut out);
     // where standard output takes no more there is no one left to tell
-    io::write_all(STDOUT_FILENO, &out[..n]);
+    let _ = rt.write_all(&out[..n]);
 }

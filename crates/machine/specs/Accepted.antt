@@ -1,6 +1,6 @@
 -- The table of refusals, group by group: what it says of a call that no line of a group applies, and "19 or else the rest".
 use Rattle.std.specs.Prelude.{ℕ, zero, suc, ◌<◌, ◌≤◌, ◌≡◌, Bool, true, false, not, ◌&&◌, ◌||◌, ltb, eqb}
-use Rattle.std.proofs.Common.{arith, sym, ap, ◌∙◌, ltb-true, leb-true, eqb-true, eq-eqb, ne_eqb}
+use Rattle.std.proofs.Common.{arith, sym, ap, ◌∙◌, ltb-true, leb-true, eqb-true}
 use Rattle.std.proofs.Math.Path.{refl}
 use Rattle.std.proofs.lemmas.Bool.{false≢true, eqb-false, not-true, not-false}
 use Rattle.machine.specs.declared.State.{State}
@@ -10,7 +10,7 @@ use Rattle.entries.specs.declared.Thread.{Thread}
 use Rattle.entries.specs.declared.Slot.{Slot}
 use Rattle.pool.specs.declared.Pool.{Pool}
 use Rattle.basics.specs.Tests.{by_test, ands, first_false, second_false}
-use Rattle.basics.specs.Rows.{first_of, NoneApplies, none, pass, FirstIs, all_from}
+use Rattle.basics.specs.Rows.{first_of, NoneApplies, none, pass, all_from}
 use Rattle.basics.proofs.Rows.{none_applies, none_split}
 use Rattle.entries.specs.Sizes.{within}
 use Rattle.entries.specs.Phases.{is_idle}

@@ -1,6 +1,6 @@
 -- "The first that applies is given, in this order, and never otherwise." The lines stand in groups: the state's own, then those of the call,
 -- which look at its fields, at its thread and at its objects.
-use Rattle.std.specs.Prelude.{ℕ, Bool, cond, not, ◌&&◌, ◌||◌, List, [], ◌∷◌, ◌++◌, ltb, eqb}
+use Rattle.std.specs.Prelude.{ℕ, Bool, not, ◌&&◌, ◌||◌, List, [], ◌∷◌, ◌++◌, ltb, eqb}
 use Rattle.machine.specs.declared.State.{State}
 use Rattle.machine.specs.declared.Call.{Call}
 use Rattle.entries.specs.declared.Sizes.{Sizes}

@@ -1,5 +1,6 @@
 // The record machine: the state, start, the soundness check, one step, and the count of the five places.
 #![tactic(auto)]
+
 mod calls;
 mod count;
 mod fresh;

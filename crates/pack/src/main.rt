@@ -1,11 +1,12 @@
 // A schedule as text on standard input, its records on standard output. Where the text is wrong it writes no records, and says on standard
 // error which line is wrong and why.
 #![tactic(auto)]
+
 mod say;
 
 ghost use Rattle.std.specs.Prelude.{◌≡◌, length};
 
-use libc::{STDIN_FILENO, STDOUT_FILENO};
+use input::read_full;
 use say::{say, say_fault};
 use script::Packed;
 use script::packing::pack;
@@ -24,21 +25,24 @@ fn record_room() -> [u8; 655360]
     [0; 655360]
 }
 
-fn main() {
+fn main(rt: HostRuntime) {
     let mut text = text_room();
-    let n = io::read_full(STDIN_FILENO, &mut text);
+    let n = read_full(&mut rt.stdin(), &mut text);
     if n == 1048577 {
-        say(b"the text is longer than 1048576 bytes; nothing was packed\n");
+        say(
+            &rt.stderr(),
+            b"the text is longer than 1048576 bytes; nothing was packed\n",
+        );
         return;
     }
     let mut records = record_room();
     let packed = pack(&text[..n], &mut records);
     match packed {
         Packed::Done(full) => {
-            if !io::write_all(STDOUT_FILENO, &records[..full]) {
-                say(b"the records could not be written\n");
+            if rt.write_all(&records[..full]).is_err() {
+                say(&rt.stderr(), b"the records could not be written\n");
             }
         }
-        Packed::Bad(line, fault) => say_fault(&text[..n], line, fault),
+        Packed::Bad(line, fault) => say_fault(&rt.stderr(), &text[..n], line, fault),
     }
 }

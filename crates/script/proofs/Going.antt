@@ -6,7 +6,7 @@ use native.Mathlib.Omega.{arith}
 use borrow.Author.Tests.{lt-ltb, le-ltb, eq-eqb, ne_eqb}
 use lib.ListN.{length, take, drop}
 use lib.Seq.{length-take-le, drop-drop}
-use lib.Dec.{ltb, eqb}
+use lib.Dec.{eqb}
 use Rattle.words.specs.declared.Why.TheVariants.{NoSizes}
 use Rattle.script.specs.declared.Fault.{Fault}
 use Rattle.script.specs.declared.Line.{Line}

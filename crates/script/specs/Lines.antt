@@ -1,12 +1,7 @@
 -- What a whole line says.
 use Rattle.std.specs.Prelude.{ℕ, List, Bool, cond, eqb}
-use Rattle.records.specs.declared.SizesRecord.{SizesRecord}
-use Rattle.records.specs.declared.StepRecord.{StepRecord}
-use Rattle.words.specs.declared.Word.{Word}
 use Rattle.script.specs.declared.Place.TheVariants as place
 use Rattle.script.specs.declared.Rest.TheVariants.{From}
-use Rattle.script.specs.declared.Field.{Field}
-use Rattle.script.specs.declared.Tag.{Tag}
 use Rattle.script.specs.declared.Line.{Line}
 use Rattle.script.specs.declared.Line.TheVariants.{Nothing, Sizes, Step}
 use Rattle.words.specs.Words.{word_at}

@@ -1,5 +1,5 @@
 -- A whole text as records.
-use Rattle.std.specs.Prelude.{ℕ, zero, suc, ◌+◌, ◌-◌, ◌≤◌, List, [], ◌++◌, Bool, cond, length, take, drop, eqb, ltb}
+use Rattle.std.specs.Prelude.{ℕ, zero, suc, ◌+◌, ◌-◌, ◌≤◌, List, [], ◌++◌, cond, length, take, drop, eqb, ltb}
 use Rattle.records.specs.Bytes.{sizes_bytes, step_bytes}
 use Rattle.words.specs.declared.Why.{Why}
 use Rattle.words.specs.declared.Why.TheVariants.{NoSizes, NoRoom}

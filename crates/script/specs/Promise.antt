@@ -1,13 +1,12 @@
 -- What is promised of a packed text: it is a schedule, one sizes record first and then steps alone. So the program that runs it never stops at
 -- a record that is cut short, has another mark or comes in the wrong place.
-use Prim.Native.Nat.{ℕ, zero, suc, ◌+◌, ◌-◌}
+use Prim.Native.Nat.{ℕ, zero, suc, ◌-◌}
 use Rattle.std.proofs.Math.Path.{◌≡◌, refl}
 use Rattle.std.specs.Prelude.{Bool, true, false, cond, List, [], ◌∷◌, ◌++◌, ◌⊎◌, length, eqb, ltb}
 use Rattle.std.proofs.Common.{append-nil, inl, inr, ⊎_elim, arith, ne_eqb, length-append}
 use Rattle.records.specs.declared.SizesRecord.{SizesRecord}
 use Rattle.records.specs.declared.StepRecord.{StepRecord}
 use Rattle.records.specs.Bytes.{sizes_bytes, step_bytes, low_first}
-use Rattle.words.specs.declared.Word.{Word}
 use Rattle.script.specs.declared.Place.{Place}
 use Rattle.script.specs.declared.Fault.{Fault}
 use Rattle.script.specs.declared.Rest.{Rest}
@@ -17,7 +16,6 @@ use Rattle.script.specs.declared.Line.{Line}
 use Rattle.script.specs.declared.Line.TheVariants as line
 use Rattle.script.specs.declared.Took.{Took}
 use Rattle.script.specs.declared.Took.TheVariants.{Full, Bad}
-use Rattle.script.specs.declared.Packed.{Packed}
 use Rattle.script.specs.declared.Packed.TheVariants as packed
 use Rattle.words.specs.Words.{word_at}
 use Rattle.script.specs.Reading.{without_more, ended_of}

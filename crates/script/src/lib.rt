@@ -2,6 +2,7 @@
 // `reading` reads the next field of a line, `lines` a whole line, and `packing` turns a whole text into records, or says which line is
 // wrong and why. Where a word stands and what it says by itself is found in the crate `words`.
 #![tactic(auto)]
+
 mod lines;
 pub mod packing;
 mod reading;

@@ -1,8 +1,6 @@
 // Tells of an input how its text ends.
 ghost use Rattle.std.specs.Prelude.{◌≤◌, length};
 
-use libc::STDOUT_FILENO;
-
 // How many lines a text has: each ends with a newline.
 fn count_lines(text: &[u8]) -> u64 {
     let mut n: u64 = 0;
@@ -32,23 +30,23 @@ fn last_line(text: &[u8]) -> usize
 }
 
 // One line: the case, its bytes, how many lines its text has, and the last of them.
-fn tell(name: &[u8], size: usize, text: &[u8]) {
-    io::write_all(STDOUT_FILENO, name);
-    io::write_all(STDOUT_FILENO, b": ");
-    io::print_decimal(STDOUT_FILENO, size as u64);
-    io::write_all(STDOUT_FILENO, b" bytes, ");
-    io::print_decimal(STDOUT_FILENO, count_lines(text));
-    io::write_all(STDOUT_FILENO, b" lines, ");
+fn tell(rt: &impl Print, name: &[u8], size: usize, text: &[u8]) {
+    let _ = rt.write_all(name);
+    let _ = rt.write_all(b": ");
+    let _ = rt.print(size);
+    let _ = rt.write_all(b" bytes, ");
+    let _ = rt.print(count_lines(text));
+    let _ = rt.write_all(b" lines, ");
     let begin = last_line(text);
-    io::write_all(STDOUT_FILENO, &text[begin..]);
+    let _ = rt.write_all(&text[begin..]);
 }
 
 // Runs the first bytes of a space as an input, and tells how the text ends. Of a size beyond the space it prints nothing.
-pub(crate) fn show(name: &[u8], space: &[u8], size: usize) {
+pub(crate) fn show(rt: &impl Print, name: &[u8], space: &[u8], size: usize) {
     // room for every run, as `lines::run` asks
     let mut out = [0u8; lines::ROOM];
     if size <= space.len() {
         let n = lines::run(&space[..size], &mut out);
-        tell(name, size, &out[..n]);
+        tell(rt, name, size, &out[..n]);
     }
 }

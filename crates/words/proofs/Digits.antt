@@ -1,15 +1,13 @@
 -- Digits from a place on: what the loops over a word need.
 use Prim.Native.Nat.{ℕ, suc, ◌+◌, ◌*◌, ◌-◌, ◌≤◌, ◌<◌}
-use mathlib.Core.Path.{◌≡◌, refl, sym, ◌∙◌}
-use mathlib.Core.Bool.{Bool, true, false, ◌&&◌, cond}
+use mathlib.Core.Path.{◌≡◌, refl}
+use mathlib.Core.Bool.{Bool, true, false, cond}
 use mathlib.Core.List.{List, [], ◌∷◌}
 use native.Mathlib.Omega.{arith}
-use native.Mathlib.Nat.{le_trans}
 use borrow.Author.Tests.{leb-true, lt-leb, le-leb}
 use lib.ListN.{length, get_or, drop, drop_of_length-le}
 use lib.Seq.{drop-cons}
 use lib.Dec.{leb}
-use Rattle.words.specs.declared.Number.{Number}
 use Rattle.words.specs.declared.Number.TheVariants.{Value, Bad}
 use Rattle.words.specs.declared.Why.TheVariants.{Missing, NotNumber, TooLarge}
 use Rattle.words.specs.Numbers.{is_digit, all_digits, worth_after, worth_of, fitting, spelled, number_of}

@@ -1,6 +1,5 @@
 -- A word read as a decimal number.
-use Rattle.std.specs.Prelude.{ℕ, ◌+◌, ◌*◌, ◌-◌, ◌≤◌, List, [], ◌∷◌, Bool, true, false, ◌&&◌, cond, leb}
-use Rattle.words.specs.declared.Why.{Why}
+use Rattle.std.specs.Prelude.{ℕ, ◌+◌, ◌*◌, ◌-◌, List, [], ◌∷◌, Bool, true, ◌&&◌, cond, leb}
 use Rattle.words.specs.declared.Why.TheVariants.{Missing, NotNumber, TooLarge}
 use Rattle.words.specs.declared.Number.{Number}
 use Rattle.words.specs.declared.Number.TheVariants.{Value, Bad}

@@ -1,6 +1,7 @@
 // Finds the words of a schedule that is written as text, and reads one word by itself. The types stand here.
 // `finding` finds the words of a line, `numbers` and `names` read one word, and `fields` says what a word means in its place.
 #![tactic(auto)]
+
 pub mod fields;
 pub mod finding;
 mod names;
