@@ -1,7 +1,6 @@
 -- The day of specs/DailySlot, computed.
-use Rattle.std.specs.Prelude.{ℕ, ◌≡◌, refl, List, [], ◌∷◌}
+use Rattle.std.specs.Prelude.{◌≡◌, refl}
 use Rattle.std.proofs.Common.{◌∙◌}
-use Rattle.lines.specs.Line.{Line, numbers, end}
 use Rattle.lines.specs.Run.{lines_of}
 use Rattle.schedule.specs.Input.{input_of}
 use Rattle.worked.specs.Printing.{quick_lines, lines_quick, printing}

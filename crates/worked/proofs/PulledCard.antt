@@ -1,5 +1,5 @@
 -- The pulled card of specs/PulledCard, computed.
-use Rattle.std.specs.Prelude.{ℕ, ◌≡◌, refl, List, [], ◌∷◌, ◌++◌}
+use Rattle.std.specs.Prelude.{◌≡◌, refl}
 use Rattle.std.proofs.Common.{◌∙◌}
 use Rattle.basics.specs.First as first
 use Rattle.text.specs.Decimal.{digits, decimal}

@@ -1,7 +1,7 @@
 -- The table of specs/Stops, computed.
-use Rattle.std.specs.Prelude.{ℕ, ◌≡◌, refl, List, [], ◌∷◌, ◌++◌, map}
+use Rattle.std.specs.Prelude.{ℕ, ◌≡◌, refl, List, map}
 use Rattle.std.proofs.Math.Path.{subst⁻¹, fun_ext}
-use Rattle.lines.specs.Line.{Line, numbers, end, stop}
+use Rattle.lines.specs.Line.{Line}
 use Rattle.lines.specs.Run.{lines_of}
 use Rattle.schedule.specs.Input.{input_of}
 use Rattle.worked.specs.Printing.{quick_lines, lines_quick, printing}

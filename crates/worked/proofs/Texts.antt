@@ -1,5 +1,5 @@
 -- The texts of specs/Texts, packed.
-use Rattle.std.specs.Prelude.{ℕ, ◌≡◌, refl, List, [], ◌∷◌}
+use Rattle.std.specs.Prelude.{◌≡◌, refl, [], ◌∷◌}
 use Rattle.basics.specs.Ascii.{ascii}
 use Rattle.records.specs.Bytes.{sizes_bytes, step_bytes, low_first}
 use Rattle.words.specs.declared.Why.TheVariants.{NotOperation}
@@ -11,7 +11,7 @@ use Rattle.script.specs.declared.Place.TheVariants.{Operation}
 use Rattle.script.specs.declared.Packed.TheVariants.{Done, Bad}
 use Rattle.script.specs.Reading.{next_word, field_of, tag_field_of, byte_at, operation_at, slot_at, link_at, tag_at, without_more, ended_of}
 use Rattle.script.specs.Lines.{sizes_line, step_line, line_of}
-use Rattle.script.specs.Packing.{next_line, added_by, took_of, Outcome, finish, go_on, pack_from, pack_of}
+use Rattle.script.specs.Packing.{next_line, added_by, took_of, finish, go_on, pack_from, pack_of}
 use Rattle.worked.specs.Texts.{bad_text, good_text}
 
 -- three records: the sizes, a swap with slot 255, and a step by number whose tag 70000 is 112 17 1 0, low byte first

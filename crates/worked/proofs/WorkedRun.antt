@@ -1,10 +1,10 @@
 -- The run of specs/WorkedRun, computed: its lines and its text.
-use Rattle.std.specs.Prelude.{ℕ, ◌≡◌, refl, List, [], ◌∷◌}
+use Rattle.std.specs.Prelude.{◌≡◌, refl}
 use Rattle.std.proofs.Common.{ap, ◌∙◌}
 use Rattle.text.specs.Decimal.{digits, decimal}
 use Rattle.text.specs.Fields.{joined}
 use Rattle.basics.specs.Ascii.{ascii}
-use Rattle.lines.specs.Line.{Line, numbers, end, bytes_of, text}
+use Rattle.lines.specs.Line.{bytes_of, text}
 use Rattle.lines.specs.Run.{lines_of, text_of}
 use Rattle.schedule.specs.Input.{input_of}
 use Rattle.worked.specs.Printing.{quick_lines, lines_quick, printing}

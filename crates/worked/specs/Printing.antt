@@ -1,6 +1,6 @@
 -- What is printed of an input, by the machine that does not look for 19: the same lines, computed in moments. Nothing here has to be believed.
 use Rattle.std.specs.Prelude.{ℕ, ◌≡◌, refl, true, List, []}
-use Rattle.std.proofs.Common.{sym, ◌∙◌}
+use Rattle.std.proofs.Common.{◌∙◌}
 use Rattle.entries.specs.declared.Sizes.{Sizes}
 use Rattle.entries.specs.Sizes.{in_range}
 use Rattle.machine.specs.declared.Call.{Call}
@@ -11,7 +11,7 @@ use Rattle.records.specs.Bytes.{number_of}
 use Rattle.records.specs.Reading as reading
 use Rattle.records.specs.Rest.{rest_after, rest_of}
 use Rattle.promise.specs.History.{history_by, state_by}
-use Rattle.lines.specs.Line.{Line, stop}
+use Rattle.lines.specs.Line.{Line}
 use Rattle.lines.specs.Run.{lines_of}
 use Rattle.sentences.specs.Told as told
 use Rattle.promise.specs.Run.{end_of}

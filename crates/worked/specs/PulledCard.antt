@@ -1,16 +1,7 @@
 -- The pulled card (`schedules/pulled-card.txt`) up to the moment at which the till is done with the old record and the payment task still reads
 -- it, computed.
-use Rattle.std.specs.Prelude.{ℕ, ◌≡◌, refl, List, [], ◌∷◌, ◌++◌}
-use Rattle.std.proofs.Common.{◌∙◌}
-use Rattle.basics.specs.First as first
-use Rattle.text.specs.Decimal.{digits, decimal}
-use Rattle.reasons.specs.Reasons as reasons
+use Rattle.std.specs.Prelude.{ℕ, List, [], ◌∷◌, ◌++◌}
 use Rattle.basics.specs.Ascii.{ascii}
-use Rattle.text.specs.Words.{filled}
-use Rattle.sentences.specs.Sentence.{thread_of, slot_of, guard_words, reason_words, hazard_words, line_of}
-use Rattle.sentences.specs.Told.{lines_from, lines_of, text_of}
-use Rattle.schedule.specs.Input.{input_of}
-use Rattle.worked.specs.Printing.{quick_sentences, sentences_quick, printing}
 
 -- sizes 2 1 1 2, then the first 18 steps as records
 unfoldable pub schedule : List ℕ

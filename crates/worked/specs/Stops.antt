@@ -1,17 +1,12 @@
 -- Every way in which a short input stops a run, and a refused step that does not, computed as one table.
-use Rattle.std.specs.Prelude.{ℕ, ◌≡◌, refl, List, [], ◌∷◌, ◌++◌, map}
-use Rattle.std.proofs.Math.Path.{subst⁻¹, fun_ext}
+use Rattle.std.specs.Prelude.{ℕ, List, [], ◌∷◌, ◌++◌}
 use Rattle.lines.specs.Line.{Line, numbers, end, stop}
-use Rattle.lines.specs.Run.{lines_of}
-use Rattle.schedule.specs.Input.{input_of}
-use Rattle.worked.specs.Printing.{quick_lines, lines_quick, printing}
 
 pub record Row : Type 0 where
   pub input : List ℕ
   pub lines : List Line
 
 infix 15 ◌gives◌
-
 abbrev pub ◌gives◌ : List ℕ → List Line → Row
 input gives lines = record { input = input; lines = lines }
 
