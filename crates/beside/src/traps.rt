@@ -102,11 +102,11 @@ pub fn first_loss(trap: usize) -> Shown {
 }
 
 fn numbers(rt: &impl Print, s: Said) -> io::Result<()> {
-    compare::text(rt, " ")?;
+    compare::text(rt, b" ")?;
     compare::number(rt, s.number)?;
-    compare::text(rt, " ")?;
+    compare::text(rt, b" ")?;
     compare::number(rt, s.a)?;
-    compare::text(rt, " ")?;
+    compare::text(rt, b" ")?;
     compare::number(rt, s.b)
 }
 
@@ -121,7 +121,7 @@ fn calls(rt: &impl Print, plan: Plan, w: Twin, last: usize) -> io::Result<()> {
             drawer = drawn.twin;
         }
     }
-    compare::text(rt, "\n")
+    compare::text(rt, b"\n")
 }
 
 // The last answer of the twin that draws, and of one in a trap.
@@ -136,11 +136,11 @@ fn answers(rt: &impl Print, plan: Plan, w: Twin, last: usize, trap: usize) -> io
             let ours = trapped.step(order);
             trapped = ours.twin;
             if i == last {
-                compare::text(rt, "    answer")?;
+                compare::text(rt, b"    answer")?;
                 numbers(rt, drawn.said)?;
-                compare::text(rt, ", in the trap")?;
+                compare::text(rt, b", in the trap")?;
                 numbers(rt, ours.said)?;
-                compare::text(rt, "\n")?;
+                compare::text(rt, b"\n")?;
             }
         }
     }
@@ -149,19 +149,19 @@ fn answers(rt: &impl Print, plan: Plan, w: Twin, last: usize, trap: usize) -> io
 
 fn found(rt: &impl Print, plan: Plan, s: Shown, drawing: usize) -> io::Result<()> {
     compare::number(rt, s.schedule)?;
-    compare::text(rt, ", sizes ")?;
+    compare::text(rt, b", sizes ")?;
     show::sizes(rt, plan)?;
-    compare::text(rt, ", calls")?;
+    compare::text(rt, b", calls")?;
     calls(rt, plan, fresh(plan, drawing), s.call)
 }
 
 fn differ(rt: &impl Print, trap: usize) -> io::Result<()> {
     let s = first_difference(trap);
     if !s.there {
-        return compare::text(rt, "  the machines answer the same\n");
+        return compare::text(rt, b"  the machines answer the same\n");
     }
     let plan = draw::planned(s.schedule);
-    compare::text(rt, "  the machines differ at the end of schedule ")?;
+    compare::text(rt, b"  the machines differ at the end of schedule ")?;
     found(rt, plan, s, 0)?;
     answers(rt, plan, fresh(plan, 0), s.call, trap)
 }
@@ -169,31 +169,31 @@ fn differ(rt: &impl Print, trap: usize) -> io::Result<()> {
 fn lose(rt: &impl Print, trap: usize) -> io::Result<()> {
     let s = first_loss(trap);
     if !s.there {
-        return compare::text(rt, "  the plain store is kept to\n");
+        return compare::text(rt, b"  the plain store is kept to\n");
     }
-    compare::text(rt, "  the plain store is left at the end of meeting ")?;
+    compare::text(rt, b"  the plain store is left at the end of meeting ")?;
     found(rt, draw::meeting(s.schedule), s, trap)
 }
 
 // Nothing is lost by an early drain or sweep, which only leaves an object behind, nor by a protect that is not ended. So those
 // three traps are not held to the store.
 pub fn all(rt: &impl Print) -> io::Result<()> {
-    compare::text(rt, "trap: moving on after a swap\n")?;
+    compare::text(rt, b"trap: moving on after a swap\n")?;
     differ(rt, 1)?;
     lose(rt, 1)?;
-    compare::text(rt, "trap: marking at publication\n")?;
+    compare::text(rt, b"trap: marking at publication\n")?;
     differ(rt, 2)?;
     lose(rt, 2)?;
-    compare::text(rt, "trap: draining before the hazard is zeroed\n")?;
+    compare::text(rt, b"trap: draining before the hazard is zeroed\n")?;
     differ(rt, 3)?;
-    compare::text(rt, "trap: freeing at the last match of a scan\n")?;
+    compare::text(rt, b"trap: freeing at the last match of a scan\n")?;
     differ(rt, 4)?;
     lose(rt, 4)?;
-    compare::text(rt, "trap: scanning only other threads' slots\n")?;
+    compare::text(rt, b"trap: scanning only other threads' slots\n")?;
     differ(rt, 5)?;
     lose(rt, 5)?;
-    compare::text(rt, "trap: idle after a sweep's scan\n")?;
+    compare::text(rt, b"trap: idle after a sweep's scan\n")?;
     differ(rt, 6)?;
-    compare::text(rt, "trap: sweeping before the hazard is stored\n")?;
+    compare::text(rt, b"trap: sweeping before the hazard is stored\n")?;
     differ(rt, 7)
 }

@@ -53,7 +53,7 @@ pub fn show(rt: &impl Print, s: Seen) -> io::Result<()> {
     let names = [23, 23, 23, 24, 25, 26, 31, 0, 0, 0, 0, 0];
     show::table(
         rt,
-        "refusals seen for operations 1 to 7: 23 for the slot, the link, the tag, 24, 25, 26, 31, and 0 accepted",
+        b"refusals seen for operations 1 to 7: 23 for the slot, the link, the tag, 24, 25, 26, 31, and 0 accepted",
         s,
         names,
         56,

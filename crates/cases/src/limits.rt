@@ -3,7 +3,7 @@ use crate::seen::{Seen, Tried};
 use crate::{seen, show, stage};
 use std::io;
 
-// "T threads 1 to 8, H hazard slots per thread 1 to 4, L links 1 to 16, N objects 1 to 240".
+// b"T threads 1 to 8, H hazard slots per thread 1 to 4, L links 1 to 16, N objects 1 to 240".
 fn most(size: usize) -> usize {
     match size {
         0 => 8,
@@ -44,7 +44,7 @@ impl Sides {
         limit(size, side)
     }
 
-    // "Starting with a size out of range is refused 20 and returns the blank state."
+    // b"Starting with a size out of range is refused 20 and returns the blank state."
     fn shown(self) -> bool {
         let t = self.of(0);
         let h = self.of(1);
@@ -87,7 +87,7 @@ pub fn show(rt: &impl Print, s: Seen) -> io::Result<()> {
     let names = [8, 4, 16, 240, 0, 0, 0, 0, 0, 0, 0, 0];
     show::table(
         rt,
-        "sizes T to 8, H to 4, L to 16, N to 240 seen: 0 refused, 1 started, the most started, one more refused",
+        b"sizes T to 8, H to 4, L to 16, N to 240 seen: 0 refused, 1 started, the most started, one more refused",
         s,
         names,
         16,

@@ -25,7 +25,7 @@ fn main(rt: HostRuntime) -> io::Result<()> {
     fields::show(&rt, fields)?;
     limits::show(&rt, limits)?;
     reasons::show(&rt, reasons)?;
-    compare::text(&rt, "differences ")?;
+    compare::text(&rt, b"differences ")?;
     compare::number(&rt, reasons.differences)?;
-    compare::text(&rt, "\n")
+    compare::text(&rt, b"\n")
 }

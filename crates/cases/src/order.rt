@@ -1,4 +1,4 @@
-// The order of the refusals: "The first that applies is given, in this order". Each that can be given while a later one applies
+// The order of the refusals: b"The first that applies is given, in this order". Each that can be given while a later one applies
 // too, for every operation of which both speak.
 //
 // 21 is never met with 26 or 28: beyond the sizes of a sound state a thread is idle and its hand is empty. The other pairs that
@@ -72,7 +72,7 @@ pub fn show(rt: &impl Print, s: Seen) -> io::Result<()> {
     let names = [19, 21, 22, 23, 24, 25, 26, 27, 28, 29, 31, 30];
     show::table(
         rt,
-        "refusals seen while a later one applied too: 19 21 22 23 24 25 26 27 28 29 31 30",
+        b"refusals seen while a later one applied too: 19 21 22 23 24 25 26 27 28 29 31 30",
         s,
         names,
         144,

@@ -3,15 +3,15 @@ use crate::seen::Seen;
 use std::io;
 
 fn name(rt: &impl Print, n: usize) -> io::Result<()> {
-    compare::text(rt, "\n  ")?;
+    compare::text(rt, b"\n  ")?;
     compare::number(rt, n)?;
-    compare::text(rt, ":")
+    compare::text(rt, b":")
 }
 
 fn cell(rt: &impl Print, tried: usize, seen: usize) -> io::Result<()> {
-    compare::text(rt, " ")?;
+    compare::text(rt, b" ")?;
     if tried == 0 {
-        compare::text(rt, "-")
+        compare::text(rt, b"-")
     } else {
         compare::number(rt, seen)
     }
@@ -20,7 +20,7 @@ fn cell(rt: &impl Print, tried: usize, seen: usize) -> io::Result<()> {
 // How often what is due was seen, by the keys below `end`, so many to a line; a dash where there is no case.
 pub fn table(
     rt: &impl Print,
-    header: &str,
+    header: &[u8],
     s: Seen,
     names: [u8; 12],
     end: usize,
@@ -38,5 +38,5 @@ pub fn table(
             }
         }
     }
-    compare::text(rt, "\n")
+    compare::text(rt, b"\n")
 }

@@ -1,8 +1,8 @@
 // To standard output.
 use std::io;
 
-pub fn text(rt: &impl Print, s: &str) -> io::Result<()> {
-    rt.print(s)
+pub fn text(rt: &impl Print, s: &[u8]) -> io::Result<()> {
+    rt.write_all(s)
 }
 
 pub fn number(rt: &impl Print, n: usize) -> io::Result<()> {
