@@ -1,5 +1,6 @@
 // Whole schedules through the machine, for a program in another language that links this library: bench/ times it.
 #![tactic(auto)]
+
 mod mixing;
 
 use machine::{State, Verdict};

@@ -1,5 +1,6 @@
 // The whole program on an input in memory, for a program in another language that links this library: bench/ times it.
 #![tactic(auto)]
+
 ghost use Rattle.std.specs.Prelude.{◌≡◌};
 ghost use Rattle.lines.specs.Lent.{answer_of, buffer_of};
 
