@@ -1,5 +1,5 @@
 -- What is known where no line of the refusals applies.
-use Rattle.std.specs.Prelude.{ℕ, ◌≡◌, true, false}
+use Rattle.std.specs.Prelude.{ℕ, ◌≡◌, refl, Bool, true, false, cond}
 use Rattle.std.proofs.Common.{arith}
 use borrow.Author.Tests.{leb-true, le-leb}
 use Rattle.machine.specs.declared.State.{State}
@@ -10,6 +10,12 @@ use Rattle.basics.specs.Rows.{first_of}
 use Rattle.basics.specs.Tests.{ands}
 use Rattle.reasons.specs.Reasons.{refusals, refusal_of}
 use Rattle.reasons.specs.Applies.{Stays}
+
+none_applies : (a b c : Bool) → ◌≡◌ {A = ℕ} (cond a 19 (cond b 60 (cond c 61 0))) 0 → (a ≡ false) × (b ≡ false) × (c ≡ false)
+none_applies true b c h = absurd (omega arith)
+none_applies false true c h = absurd (omega arith)
+none_applies false false true h = absurd (omega arith)
+none_applies false false false h = (refl, refl, refl)
 
 module _ (s : State) (o : ℕ) where
   pub stays : refusal_of s o ≡ 0 → Stays s o
