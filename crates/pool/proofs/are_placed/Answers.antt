@@ -1,7 +1,7 @@
 -- `are_placed` meets its contract: there is room for 240 objects, and of those each is looked at.
 use mathlib.Core.Bool.{and-false}
 use borrow.Author.Tests.{le-leb, lt-leb}
-use Rattle.basics.specs.Tests.{refused, passed}
+use Rattle.std.proofs.Common.{sym, ◌∙◌}
 use Rattle.pool.specs.Pool.{is_free, each_once}
 use Rattle.pool.proofs.are_placed.Goals as goal
 
@@ -10,8 +10,8 @@ unfolding each_once
 returns-then-objects-gt240 c = rw (lt-leb _ _ c.if-objects-gt240.true, and-false)
 
 pub returns-then-not-off_from : goal.returns-then-not-off_from
-returns-then-not-off_from c = rw (refused c.off_from.ensures c.if-not-off_from.true-raw)
+returns-then-not-off_from c = rw (sym c.off_from.ensures ∙ c.if-not-off_from.true)
 
 pub returns : goal.returns
 unfolding each_once is_free
-returns c = rw (passed c.off_from.ensures c.if-not-off_from.false-raw, le-leb _ _ c.if-objects-gt240.false) c.each_once.ensures
+returns c = rw (sym c.off_from.ensures ∙ c.if-not-off_from.false, le-leb _ _ c.if-objects-gt240.false) c.each_once.ensures

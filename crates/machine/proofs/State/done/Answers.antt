@@ -67,7 +67,8 @@ clear-requires c =
     (small _ _ c.requires, position_32 _ (ranged _ _ c.requires) _ (inside _ _ c.requires (rw op) (rw op)))
 
 pub go_on-requires : goal.go_on-requires
-go_on-requires c = let all = may _ _ c.requires in (from_sound _ all.sound, all.fields.thread)
+go_on-requires c =
+    let all = may _ _ c.requires in (from_sound _ all.sound, all.fields.thread)
 
 pub returns-in-1 : goal.returns-in-1
 unfolding done_of

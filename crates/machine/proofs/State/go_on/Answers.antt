@@ -1,5 +1,4 @@
 -- `go_on` picks the case by the phase. Soundness says that what the phase carries is in range, which is what each case asks.
--- the two kinds of scan come to one call: which of them it was says what is carried and where
 use Prim.Native.Nat.{ℕ, ◌<◌, ◌≤◌}
 use native.Mathlib.Omega.{arith}
 use mathlib.Core.Path.{◌≡◌, ◌∙◌}
@@ -59,6 +58,7 @@ empty-requires-in-Draining c =
     let h = c.requires in
     (small _ _ h.0 h.1, has_slot _ _ h.0 h.1 _ (draining_facts _ _ (in_range _ _ h.0 h.1 _ c.in-Draining.is)))
 
+-- the two kinds of scan come to one call: which of them it was says what is carried and where
 pub hand_over-requires : goal.hand_over-requires
 hand_over-requires c =
     let h = c.requires in

@@ -13,12 +13,14 @@ returns-then-end-position c = c.let_go.ensures ∙ rw (le-ltb _ _ c.if-end-posit
 
 pub returns-then-there-object : goal.returns-then-there-object
 unfolding look_of
-returns-then-there-object c = let back = c.returns_to-back.ensures in
+returns-then-there-object c =
+    let back = c.returns_to-back.ensures in
     let below = lt-ltb _ _ c.if-end-position.false in
     rw (c.swapping.ensures, back, below, eq-eqb _ _ c.if-there-object.true)
 
 pub returns : goal.returns
 unfolding look_of
-returns c = let back = c.returns_to-back.ensures in
+returns c =
+    let back = c.returns_to-back.ensures in
     let below = lt-ltb _ _ c.if-end-position.false in
     rw (c.looking.ensures, back, below, ne_eqb _ _ c.if-there-object.false, add-one)

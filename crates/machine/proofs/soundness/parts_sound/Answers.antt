@@ -1,17 +1,14 @@
 -- `parts_sound` meets its contract: any test that fails decides, and where none does, what is left is whether each object is in one place.
--- the numbers of all places but the free ones, within the sizes
--- the tests that were passed before the walk
--- what the walk finds decides
 use Prim.Native.Nat.{ℕ, suc, ◌+◌}
 use native.Mathlib.Omega.{arith}
-use mathlib.Core.Path.{◌≡◌, ap, ◌∙◌}
+use mathlib.Core.Path.{◌≡◌, sym, ap, ◌∙◌}
 use mathlib.Core.Bool.{true, false, not, ◌&&◌, ◌||◌, and-false}
 use mathlib.Core.List.{List}
 use lib.ListN.{length, get_or}
 use lib.Dec.{ltb, eqb}
 use borrow.Author.Tests.{eq-eqb, le-leb}
 use borrow.Author.Rules.{rules}
-use Rattle.basics.specs.Tests.{refused, passed, and_then}
+use Rattle.basics.specs.Tests.{passed, and_then}
 use Rattle.basics.specs.Under.{all_under, under_same, under_at}
 use Rattle.basics.specs.Counts.{bit, count_under}
 use Rattle.entries.specs.Entries.{sizes_good, link_good, thread_good, slot_good, tag_good}
@@ -25,9 +22,11 @@ use Rattle.machine.specs.Soundness.{places_holding, sound}
 use Rattle.machine.specs.Sound.{Shape, from_shape}
 use Rattle.machine.proofs.soundness.parts_sound.Goals as goal
 
+-- the numbers of all places but the free ones, within the sizes
 abbrev row : State → List ℕ
 row s = row_of s.sizes s.links s.threads s.slots
 
+-- the tests that were passed before the walk
 record Passed (s : State) : Type 0 where
   shape : Shape s
   sizes : sizes_good s.sizes ≡ true
@@ -56,6 +55,7 @@ once-each s passed =
     and_then (le-leb _ _ (bounds _ passed.sizes).objects)
     (under_same _ _ _ (λ k h. ap (λ (m : ℕ). eqb m 1) (counted s passed k)))
 
+-- what the walk finds decides
 decides : (s : State) → Passed s → all_under 240 (λ k. tag_good s.sizes k (get_or s.tags k 0)) ≡ true → length s.pool.marks ≡ 240
     → (all_under 240 (λ k. ltb k s.sizes.objects || not (get_or s.pool.marks k false)) && each_once s.sizes.objects s.pool (row s)) ≡ sound s
 unfolding sound pool_good
@@ -64,36 +64,37 @@ decides s passed tags long =
 
 pub returns-then-not-sizes_good : goal.returns-then-not-sizes_good
 unfolding sound
-returns-then-not-sizes_good c = rw (refused c.sizes_good.ensures c.if-not-sizes_good.true-raw, and-false)
+returns-then-not-sizes_good c = rw (sym c.sizes_good.ensures ∙ c.if-not-sizes_good.true, and-false)
 
 pub returns-then-not-links_good : goal.returns-then-not-links_good
 unfolding sound
-returns-then-not-links_good c = rw (refused c.links_good.ensures c.if-not-links_good.true-raw, and-false)
+returns-then-not-links_good c = rw (sym c.links_good.ensures ∙ c.if-not-links_good.true, and-false)
 
 pub returns-then-not-threads_good : goal.returns-then-not-threads_good
 unfolding sound
-returns-then-not-threads_good c = rw (refused c.threads_good.ensures c.if-not-threads_good.true-raw, and-false)
+returns-then-not-threads_good c = rw (sym c.threads_good.ensures ∙ c.if-not-threads_good.true, and-false)
 
 pub returns-then-not-slots_good : goal.returns-then-not-slots_good
 unfolding sound
-returns-then-not-slots_good c = rw (refused c.slots_good.ensures c.if-not-slots_good.true-raw, and-false)
+returns-then-not-slots_good c = rw (sym c.slots_good.ensures ∙ c.if-not-slots_good.true, and-false)
 
 pub returns-then-not-tags_good : goal.returns-then-not-tags_good
 unfolding sound
-returns-then-not-tags_good c = rw (refused c.tags_good.ensures c.if-not-tags_good.true-raw, and-false)
+returns-then-not-tags_good c = rw (sym c.tags_good.ensures ∙ c.if-not-tags_good.true, and-false)
 
 pub returns : goal.returns
-returns c = let a = c.args in
+returns c =
+    let a = c.args in
     let s = of_parts a.z a.links.now a.threads a.slots a.marks.now a.tags.now in
     c.are_placed.ensures ∙
     rw c.row_of-row.ensures
     (decides s
     (record {
       shape = record { links = c.requires.0; threads = search rules; slots = search rules; tags = c.requires.2 };
-      sizes = passed c.sizes_good.ensures c.if-not-sizes_good.false-raw;
-      links = passed c.links_good.ensures c.if-not-links_good.false-raw;
-      threads = passed c.threads_good.ensures c.if-not-threads_good.false-raw;
-      slots = passed c.slots_good.ensures c.if-not-slots_good.false-raw;
+      sizes = sym c.sizes_good.ensures ∙ c.if-not-sizes_good.false;
+      links = sym c.links_good.ensures ∙ c.if-not-links_good.false;
+      threads = sym c.threads_good.ensures ∙ c.if-not-threads_good.false;
+      slots = sym c.slots_good.ensures ∙ c.if-not-slots_good.false;
     })
-    (passed c.tags_good.ensures c.if-not-tags_good.false-raw)
+    (sym c.tags_good.ensures ∙ c.if-not-tags_good.false)
     c.requires.1)

@@ -1,3 +1,4 @@
+-- The loop's invariant: the elements passed are counted.
 use Prim.Native.Nat.{◌≤◌, ◌-◌}
 use mathlib.Core.Path.{◌≡◌}
 use lib.ListN.{take}

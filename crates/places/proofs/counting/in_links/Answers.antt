@@ -1,4 +1,4 @@
--- `in_links` meets its contract. The loop's invariant: the elements passed are counted.
+-- `in_links` meets its contract.
 use mathlib.Core.Path.{◌≡◌, refl}
 use native.Mathlib.Omega.{arith}
 use lib.ListN.{length}
@@ -13,18 +13,21 @@ unfolding how_many
 loop-i-init c = (omega arith, refl)
 
 pub overflow_add-n : goal.overflow_add-n
-overflow_add-n c = let l = c.loop-i in
+overflow_add-n c =
+    let l = c.loop-i in
     let a = c.args in
     record { fits = omega (arith, count_next is_object a.links l.i l.n l.invariant.1 0 c.bit-n.result c.bit-n.ensures) }
 
 pub loop-i-preserved : goal.loop-i-preserved
-loop-i-preserved c = let l = c.loop-i in
+loop-i-preserved c =
+    let l = c.loop-i in
     let a = c.args in
     let long : length a.links ≡ 16 = search rules in
     (omega arith, count_more is_object a.links l.i l.n l.invariant.1 0 c.bit-n.result (omega arith) c.bit-n.ensures)
 
 pub returns : goal.returns
-returns c = let l = c.loop-i in
+returns c =
+    let l = c.loop-i in
     let a = c.args in
     let long : length a.links ≡ 16 = search rules in
     count_all is_object a.links l.i l.n l.invariant.1 (omega arith)

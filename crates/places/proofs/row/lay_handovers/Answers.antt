@@ -1,4 +1,4 @@
--- `lay_handovers` meets its contract. The loop's invariant: the numbers passed are laid.
+-- `lay_handovers` meets its contract.
 use Prim.Native.Nat.{ℕ}
 use mathlib.Core.Path.{◌≡◌, sym, subst, ◌∙◌}
 use mathlib.Core.List.{map}
@@ -15,11 +15,13 @@ pub loop-i-init : goal.loop-i-init
 loop-i-init c = (omega arith, paste-zero c.args.row.now 24 (map (λ (slot : Slot). slot.handover) c.args.slots))
 
 pub loop-i-preserved : goal.loop-i-preserved
-loop-i-preserved c = let l = c.loop-i in
+loop-i-preserved c =
+    let l = c.loop-i in
     let long : length (map (λ (slot : Slot). slot.handover) c.args.slots) ≡ 32 = length-map c.args.slots _ ∙ search rules in
     (omega arith, laid_more c.args.row.now 24 (map (λ (slot : Slot). slot.handover) c.args.slots) l.i l.invariant.1 (sym (get_or-map (λ (slot : Slot). slot.handover) c.args.slots l.i empty_slot)) (omega (arith, c.requires.0)) (omega arith))
 
 pub returns : goal.returns
-returns c = let l = c.loop-i in
+returns c =
+    let l = c.loop-i in
     let all : l.i ≡ c.args.end = omega arith in
     subst (λ (k : ℕ). l.row ≡ paste c.args.row.now 24 (map (λ (slot : Slot). slot.handover) c.args.slots) k) all l.invariant.1

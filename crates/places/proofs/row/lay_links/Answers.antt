@@ -1,4 +1,4 @@
--- `lay_links` meets its contract. The loop's invariant: the numbers passed are laid.
+-- `lay_links` meets its contract.
 use Prim.Native.Nat.{ℕ, ◌+◌}
 use mathlib.Core.Path.{◌≡◌, refl, subst}
 use native.Mathlib.Omega.{arith}
@@ -13,7 +13,8 @@ pub loop-i-init : goal.loop-i-init
 loop-i-init c = (omega arith, paste-zero c.args.row.now 0 c.args.links)
 
 pub loop-i-preserved : goal.loop-i-preserved
-loop-i-preserved c = let l = c.loop-i in
+loop-i-preserved c =
+    let l = c.loop-i in
     let long : length c.args.links ≡ 16 = search rules in (
       omega arith,
       subst (λ (j : ℕ). set l.row j (get_or c.args.links l.i 0) ≡ paste c.args.row.now 0 c.args.links (l.i + 1)) (zero-add l.i)
@@ -21,6 +22,7 @@ loop-i-preserved c = let l = c.loop-i in
     )
 
 pub returns : goal.returns
-returns c = let l = c.loop-i in
+returns c =
+    let l = c.loop-i in
     let all : l.i ≡ c.args.end = omega arith in
     subst (λ (k : ℕ). l.row ≡ paste c.args.row.now 0 c.args.links k) all l.invariant.1

@@ -1,3 +1,4 @@
+-- The loop's invariant: the numbers passed are laid.
 use Prim.Native.Nat.{◌≤◌, ◌-◌}
 use mathlib.Core.Path.{◌≡◌}
 use lib.Seq.{paste}

@@ -11,7 +11,8 @@ unfolding is_free
 returns-then-object-eq0 c = rw c.if-object-eq0.true
 
 pub returns-then-object-gt240 : goal.returns-then-object-gt240
-returns-then-object-gt240 c = let a = c.args in
+returns-then-object-gt240 c =
+    let a = c.args in
     let long : length a.self.marks ≡ 240 = search rules in
     free_past a.self a.object long c.if-object-gt240.true
 

@@ -1,3 +1,4 @@
+-- The loop's invariant: the objects passed are in one place each.
 use Prim.Native.Nat.{suc, ◌+◌, ◌≤◌, ◌-◌}
 use mathlib.Core.Path.{◌≡◌}
 use mathlib.Core.Bool.{true, false}

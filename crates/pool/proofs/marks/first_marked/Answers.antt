@@ -1,4 +1,4 @@
--- `first_marked` meets its contract. The loop's invariant: the marks passed are on, and the others are off.
+-- `first_marked` meets its contract.
 use native.Mathlib.Omega.{arith}
 use Prim.Native.Nat.{ℕ, ◌-◌}
 use mathlib.Core.Path.{◌≡◌, refl, ap, ◌∙◌}
@@ -17,5 +17,6 @@ loop-i-preserved c = (refl, omega arith, ap (λ (l : List Bool). set l c.loop-i.
 
 pub returns : goal.returns
 unfolding marked
-returns c = let e : c.loop-i.i ≡ c.args.n = omega arith in
+returns c =
+    let e : c.loop-i.i ≡ c.args.n = omega arith in
     c.loop-i.invariant.2 ∙ ap (λ (k : ℕ). replicate k true ++ replicate (240 - k) false) e

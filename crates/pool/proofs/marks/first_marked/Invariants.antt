@@ -1,3 +1,4 @@
+-- The loop's invariant: the marks passed are on, and the others are off.
 use Prim.Native.Nat.{◌≤◌, ◌-◌}
 use mathlib.Core.Path.{◌≡◌}
 use mathlib.Core.Bool.{true, false}

@@ -1,4 +1,4 @@
--- The loop has looked at the marks below k, none of which is on, so the search of the rest gives the number of the whole search.
+-- `first_on` meets its contract.
 use mathlib.Core.Path.{refl, sym, ◌∙◌}
 use native.Mathlib.Omega.{arith}
 use borrow.Author.Rules.{rules}
@@ -9,16 +9,19 @@ pub loop-k-init : goal.loop-k-init
 loop-k-init c = (search rules, (c.requires, refl))
 
 pub returns-then-marks-k : goal.returns-then-marks-k
-returns-then-marks-k c = let e = c.loop-k.invariant.1.1 in
+returns-then-marks-k c =
+    let e = c.loop-k.invariant.1.1 in
     let l = c.loop-k.invariant.1.0 in
     record { number = sym (here _ _ (omega arith) c.if-marks-k.true) ∙ e; within = search rules }
 
 pub loop-k-preserved : goal.loop-k-preserved
-loop-k-preserved c = let e = c.loop-k.invariant.1.1 in
+loop-k-preserved c =
+    let e = c.loop-k.invariant.1.1 in
     let l = c.loop-k.invariant.1.0 in
     (search rules, (l, sym (further _ _ (omega arith) c.if-marks-k.false) ∙ e))
 
 pub returns : goal.returns
-returns c = let e = c.loop-k.invariant.1.1 in
+returns c =
+    let e = c.loop-k.invariant.1.1 in
     let l = c.loop-k.invariant.1.0 in
     record { number = sym (none _ _ (omega arith)) ∙ e; within = search rules }

@@ -1,3 +1,4 @@
+-- The loop has looked at the marks below k, none of which is on, so the search of the rest gives the number of the whole search.
 use Prim.Native.Nat.{◌≤◌, ◌-◌}
 use mathlib.Core.Path.{◌≡◌}
 use lib.ListN.{length, drop}

@@ -1,3 +1,4 @@
+-- The loop's invariant: what is carried is the test of the marks under k, of which those under n pass.
 use Prim.Native.Nat.{◌≤◌, ◌<◌, ◌-◌}
 use mathlib.Core.Path.{◌≡◌}
 use mathlib.Core.Bool.{false, not, ◌||◌}
