@@ -1,5 +1,6 @@
 // The run of a schedule, from the input's bytes to the bytes of its lines.
 #![tactic(auto)]
+
 mod first;
 mod steps;
 mod told;

@@ -22,6 +22,7 @@ fn call_of(step: StepRecord) -> Call
 }
 
 // What stands at the front of the bytes that are left, after so many steps.
+#[tactic(auto, unfolding(crate::specs::Going::next_of, crate::specs::Going::next_at))]
 pub fn next(left: &[u8], steps: u32) -> Next
     ensures { result ≡ next_of steps left.now }
 {

@@ -1,5 +1,4 @@
--- `lines::steps::put_steps` meets its contract. The invariant: the text from the present state and the bytes that are left is still to come;
--- each step so far took at most 40 bytes.
+-- `lines::steps::put_steps` meets its contract.
 use Prim.Native.Nat.{ℕ, ◌+◌, ◌-◌}
 use mathlib.Core.Path.{◌≡◌, refl, sym, ◌∙◌}
 use mathlib.Core.List.{◌++◌}
@@ -33,11 +32,11 @@ loop-call-preserved c =
     let stands : next_of at.steps at.left.now ≡ Call c.in-Call.call = sym c.next-found.ensures ∙ c.in-Call.is in
     -- a step's line, and the text from the state after it and the bytes after its record
     let turn :
-        text (lines_found at.steps at.now_at (found_from (6001 - at.steps) at.steps at.left.now)) ≡
-        bytes_of (step_line (at.steps + 1) c.in-Call.call c.step-done.result.answer) ++
-        text (lines_found (at.steps + 1) c.step-done.result.state (found_from (6001 - (at.steps + 1)) (at.steps + 1) c.rest-after.result.now)) =
-        rw (c.rest-after.ensures, c.step-done.ensures)
-        (step_text at.steps at.now_at at.left.now at.invariant.0 c.in-Call.call stands) in (
+    text (lines_found at.steps at.now_at (found_from (6001 - at.steps) at.steps at.left.now)) ≡
+    bytes_of (step_line (at.steps + 1) c.in-Call.call c.step-done.result.answer) ++
+    text (lines_found (at.steps + 1) c.step-done.result.state (found_from (6001 - (at.steps + 1)) (at.steps + 1) c.rest-after.result.now)) =
+    rw (c.rest-after.ensures, c.step-done.ensures)
+    (step_text at.steps at.now_at at.left.now at.invariant.0 c.in-Call.call stands) in (
       omega (arith, call_room _ _ _ stands),
       omega (arith, c.put_step-place.ensures.0),
       leads_on _ at.invariant.2 turn (omega (arith, c.put_step-place.ensures.0, c.put_step-place.ensures.1.next, at.invariant.2.size, c.requires.1)) c.put_step-place.ensures.1,

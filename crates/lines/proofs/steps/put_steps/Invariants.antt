@@ -5,6 +5,7 @@ use Rattle.lines.specs.Run.{lines_found}
 use Rattle.text.specs.Appending.{Leads}
 use Rattle.lines.proofs.steps.put_steps.Given as goal
 
+-- The text from the present state and the bytes that are left is still to come; each step so far took at most 40 bytes.
 abbrev pub invariant-loop-call : goal.invariant-loop-call
 invariant-loop-call l = (l.steps ≤ 6000) ×
     (l.place ≤ 40 * l.steps + 40) ×

@@ -30,14 +30,14 @@ pub returns : goal.returns
 returns c =
     let line = line-bytes c.args.number c.args.step c.args.answer _ _ _ c.told_as-told.ensures in
     let short =
-        step_short c.args.number c.args.step c.args.answer _ _ _
-        c.told_as-told.ensures
-        c.requires.0
-        (search rules)
-        (search rules)
-        (search rules)
-        (search rules)
-        (search rules) in
+    step_short c.args.number c.args.step c.args.answer _ _ _
+    c.told_as-told.ensures
+    c.requires.0
+    (search rules)
+    (search rules)
+    (search rules)
+    (search rules)
+    (search rules) in
     let room : c.args.at + length (bytes_of (step_line c.args.number c.args.step c.args.answer)) ≤ length c.args.out.now = omega (arith, short, c.requires.1) in
     let all = fitted (rw line at room) c.put_line.ensures in
     (up_to 40 all (rw line at short), rw line all)
