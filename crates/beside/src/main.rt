@@ -1,5 +1,6 @@
 // Two machines and a plain store, run beside each other on many schedules and compared.
 #![tactic(auto)]
+
 mod change;
 mod dice;
 mod draw;
@@ -10,6 +11,8 @@ mod tally;
 mod totals;
 mod traps;
 
+use std::io;
+
 fn all() -> totals::Totals {
     let mut sum = totals::none();
     for n in 0..draw::SCHEDULES {
@@ -18,7 +21,7 @@ fn all() -> totals::Totals {
     sum
 }
 
-fn main() {
-    show::totals(all());
-    traps::all();
+fn main(rt: HostRuntime) -> io::Result<()> {
+    show::totals(&rt, all())?;
+    traps::all(&rt)
 }

@@ -5,102 +5,103 @@ use crate::tally::Tally;
 use crate::totals::Totals;
 use crate::{draw, kinds};
 use plain::Order;
+use std::io;
 
-fn item(s: &[u8], n: usize) {
-    compare::text(s);
-    compare::number(n);
+fn item(rt: &impl Print, s: &str, n: usize) -> io::Result<()> {
+    compare::text(rt, s)?;
+    compare::number(rt, n)
 }
 
-fn line(s: &[u8], n: usize) {
-    item(s, n);
-    compare::text(b"\n");
+fn line(rt: &impl Print, s: &str, n: usize) -> io::Result<()> {
+    item(rt, s, n)?;
+    compare::text(rt, "\n")
 }
 
-fn seen(t: Tally, low: usize, high: usize) {
+fn seen(rt: &impl Print, t: Tally, low: usize, high: usize) -> io::Result<()> {
     for k in 0..32 {
         if low <= k {
             if k <= high {
-                compare::text(b" ");
-                compare::number(k);
-                compare::text(b":");
-                compare::number(t.at(k));
+                compare::text(rt, " ")?;
+                compare::number(rt, k)?;
+                compare::text(rt, ":")?;
+                compare::number(rt, t.at(k))?;
             }
         }
     }
-    compare::text(b"\n");
+    compare::text(rt, "\n")
 }
 
-fn drains(name: &[u8], t: Tally, nothing: usize) {
-    compare::text(name);
-    item(b" finds nothing ", t.at(nothing));
-    line(b", something ", t.at(kinds::FINDS));
+fn drains(rt: &impl Print, name: &str, t: Tally, nothing: usize) -> io::Result<()> {
+    compare::text(rt, name)?;
+    item(rt, " finds nothing ", t.at(nothing))?;
+    line(rt, ", something ", t.at(kinds::FINDS))
 }
 
-fn scans(name: &[u8], t: Tally) {
-    compare::text(name);
-    item(b" look passes ", t.at(kinds::PASSES));
-    item(b", meets ", t.at(kinds::MEETS));
-    item(b", frees ", t.at(kinds::FREES));
-    item(b"; swap leaves ", t.at(kinds::LEAVES));
-    line(b", displaces ", t.at(kinds::DISPLACES));
+fn scans(rt: &impl Print, name: &str, t: Tally) -> io::Result<()> {
+    compare::text(rt, name)?;
+    item(rt, " look passes ", t.at(kinds::PASSES))?;
+    item(rt, ", meets ", t.at(kinds::MEETS))?;
+    item(rt, ", frees ", t.at(kinds::FREES))?;
+    item(rt, "; swap leaves ", t.at(kinds::LEAVES))?;
+    line(rt, ", displaces ", t.at(kinds::DISPLACES))
 }
 
-fn steps(k: Kinds) {
+fn steps(rt: &impl Print, k: Kinds) -> io::Result<()> {
     let idle = k.to_idle;
     let published = k.to_published;
-    compare::text(b"steps seen\n");
-    line(b"  publication ", idle.at(kinds::PUBLISHES));
-    item(b"  second read: protects ", idle.at(kinds::PROTECTS));
-    item(b", finds nothing ", idle.at(kinds::NOTHING));
-    line(b", loads again ", idle.at(kinds::LOADS));
-    drains(b"  drain:", idle, kinds::DRAINED);
-    drains(b"  sweep:", published, kinds::SWEPT);
-    scans(b"  scan that returns to idle:", idle);
-    scans(b"  scan that returns to Published:", published);
+    compare::text(rt, "steps seen\n")?;
+    line(rt, "  publication ", idle.at(kinds::PUBLISHES))?;
+    item(rt, "  second read: protects ", idle.at(kinds::PROTECTS))?;
+    item(rt, ", finds nothing ", idle.at(kinds::NOTHING))?;
+    line(rt, ", loads again ", idle.at(kinds::LOADS))?;
+    drains(rt, "  drain:", idle, kinds::DRAINED)?;
+    drains(rt, "  sweep:", published, kinds::SWEPT)?;
+    scans(rt, "  scan that returns to idle:", idle)?;
+    scans(rt, "  scan that returns to Published:", published)
 }
 
-pub fn totals(t: Totals) {
-    line(b"schedules ", draw::SCHEDULES);
-    line(b"started ", t.started);
-    line(b"answers compared ", t.calls);
-    line(b"whole states compared ", t.states);
-    line(b"counts of the five places compared ", t.counts);
-    line(b"store's answers compared ", t.listed);
-    line(b"holdings compared ", t.holdings);
-    compare::text(b"answers seen");
-    seen(t.seen, 1, 11);
-    compare::text(b"work seen");
-    seen(t.work, 1, 7);
-    compare::text(b"refusals seen");
-    seen(t.seen, 19, 31);
-    steps(t.kinds);
-    line(b"changed states judged by both checks ", t.changed);
-    line(b"  sound ", t.sound);
-    line(b"  not sound ", t.unsound);
-    line(b"differences ", t.differences);
+pub fn totals(rt: &impl Print, t: Totals) -> io::Result<()> {
+    line(rt, "schedules ", draw::SCHEDULES)?;
+    line(rt, "started ", t.started)?;
+    line(rt, "answers compared ", t.calls)?;
+    line(rt, "whole states compared ", t.states)?;
+    line(rt, "counts of the five places compared ", t.counts)?;
+    line(rt, "store's answers compared ", t.listed)?;
+    line(rt, "holdings compared ", t.holdings)?;
+    compare::text(rt, "answers seen")?;
+    seen(rt, t.seen, 1, 11)?;
+    compare::text(rt, "work seen")?;
+    seen(rt, t.work, 1, 7)?;
+    compare::text(rt, "refusals seen")?;
+    seen(rt, t.seen, 19, 31)?;
+    steps(rt, t.kinds)?;
+    line(rt, "changed states judged by both checks ", t.changed)?;
+    line(rt, "  sound ", t.sound)?;
+    line(rt, "  not sound ", t.unsound)?;
+    line(rt, "differences ", t.differences)
 }
 
-pub fn sizes(p: Plan) {
-    compare::number(p.threads);
-    compare::text(b" ");
-    compare::number(p.slots);
-    compare::text(b" ");
-    compare::number(p.links);
-    compare::text(b" ");
-    compare::number(p.objects);
+pub fn sizes(rt: &impl Print, p: Plan) -> io::Result<()> {
+    compare::number(rt, p.threads)?;
+    compare::text(rt, " ")?;
+    compare::number(rt, p.slots)?;
+    compare::text(rt, " ")?;
+    compare::number(rt, p.links)?;
+    compare::text(rt, " ")?;
+    compare::number(rt, p.objects)
 }
 
 // Thread, operation, slot, link and tag, as 01 writes a step.
-pub fn order(o: Order) {
-    compare::text(b" ");
-    compare::number(o.thread);
-    compare::text(b" ");
-    compare::number(o.operation);
-    compare::text(b" ");
-    compare::number(o.slot);
-    compare::text(b" ");
-    compare::number(o.link);
-    compare::text(b" ");
-    compare::number(o.tag);
-    compare::text(b";");
+pub fn order(rt: &impl Print, o: Order) -> io::Result<()> {
+    compare::text(rt, " ")?;
+    compare::number(rt, o.thread)?;
+    compare::text(rt, " ")?;
+    compare::number(rt, o.operation)?;
+    compare::text(rt, " ")?;
+    compare::number(rt, o.slot)?;
+    compare::text(rt, " ")?;
+    compare::number(rt, o.link)?;
+    compare::text(rt, " ")?;
+    compare::number(rt, o.tag)?;
+    compare::text(rt, ";")
 }

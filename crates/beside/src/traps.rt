@@ -3,6 +3,7 @@
 use crate::draw::Plan;
 use crate::{draw, run, show};
 use plain::Said;
+use std::io;
 use twin::Twin;
 
 // A schedule and a call of it, both from 0; `there` is false where no schedule shows a difference.
@@ -100,31 +101,31 @@ pub fn first_loss(trap: usize) -> Shown {
     }
 }
 
-fn numbers(s: Said) {
-    compare::text(b" ");
-    compare::number(s.number);
-    compare::text(b" ");
-    compare::number(s.a);
-    compare::text(b" ");
-    compare::number(s.b);
+fn numbers(rt: &impl Print, s: Said) -> io::Result<()> {
+    compare::text(rt, " ")?;
+    compare::number(rt, s.number)?;
+    compare::text(rt, " ")?;
+    compare::number(rt, s.a)?;
+    compare::text(rt, " ")?;
+    compare::number(rt, s.b)
 }
 
 // The calls of a schedule up to one, drawn for a twin.
-fn calls(plan: Plan, w: Twin, last: usize) {
+fn calls(rt: &impl Print, plan: Plan, w: Twin, last: usize) -> io::Result<()> {
     let mut drawer = w;
     for i in 0..256 {
         if i <= last {
             let order = draw::order(plan, i, drawer);
-            show::order(order);
+            show::order(rt, order)?;
             let drawn = drawer.step(order);
             drawer = drawn.twin;
         }
     }
-    compare::text(b"\n");
+    compare::text(rt, "\n")
 }
 
 // The last answer of the twin that draws, and of one in a trap.
-fn answers(plan: Plan, w: Twin, last: usize, trap: usize) {
+fn answers(rt: &impl Print, plan: Plan, w: Twin, last: usize, trap: usize) -> io::Result<()> {
     let mut drawer = w;
     let mut trapped = w.in_trap(trap);
     for i in 0..256 {
@@ -135,65 +136,64 @@ fn answers(plan: Plan, w: Twin, last: usize, trap: usize) {
             let ours = trapped.step(order);
             trapped = ours.twin;
             if i == last {
-                compare::text(b"    answer");
-                numbers(drawn.said);
-                compare::text(b", in the trap");
-                numbers(ours.said);
-                compare::text(b"\n");
+                compare::text(rt, "    answer")?;
+                numbers(rt, drawn.said)?;
+                compare::text(rt, ", in the trap")?;
+                numbers(rt, ours.said)?;
+                compare::text(rt, "\n")?;
             }
         }
     }
+    Ok(())
 }
 
-fn found(plan: Plan, s: Shown, drawing: usize) {
-    compare::number(s.schedule);
-    compare::text(b", sizes ");
-    show::sizes(plan);
-    compare::text(b", calls");
-    calls(plan, fresh(plan, drawing), s.call);
+fn found(rt: &impl Print, plan: Plan, s: Shown, drawing: usize) -> io::Result<()> {
+    compare::number(rt, s.schedule)?;
+    compare::text(rt, ", sizes ")?;
+    show::sizes(rt, plan)?;
+    compare::text(rt, ", calls")?;
+    calls(rt, plan, fresh(plan, drawing), s.call)
 }
 
-fn differ(trap: usize) {
+fn differ(rt: &impl Print, trap: usize) -> io::Result<()> {
     let s = first_difference(trap);
     if !s.there {
-        compare::text(b"  the machines answer the same\n");
-        return;
+        return compare::text(rt, "  the machines answer the same\n");
     }
     let plan = draw::planned(s.schedule);
-    compare::text(b"  the machines differ at the end of schedule ");
-    found(plan, s, 0);
-    answers(plan, fresh(plan, 0), s.call, trap);
+    compare::text(rt, "  the machines differ at the end of schedule ")?;
+    found(rt, plan, s, 0)?;
+    answers(rt, plan, fresh(plan, 0), s.call, trap)
 }
 
-fn lose(trap: usize) {
+fn lose(rt: &impl Print, trap: usize) -> io::Result<()> {
     let s = first_loss(trap);
     if !s.there {
-        compare::text(b"  the plain store is kept to\n");
-        return;
+        return compare::text(rt, "  the plain store is kept to\n");
     }
-    compare::text(b"  the plain store is left at the end of meeting ");
-    found(draw::meeting(s.schedule), s, trap);
+    compare::text(rt, "  the plain store is left at the end of meeting ")?;
+    found(rt, draw::meeting(s.schedule), s, trap)
 }
 
 // Nothing is lost by an early drain or sweep, which only leaves an object behind, nor by a protect that is not ended. So those
 // three traps are not held to the store.
-pub fn all() {
-    compare::text(b"trap: moving on after a swap\n");
-    differ(1);
-    lose(1);
-    compare::text(b"trap: marking at publication\n");
-    differ(2);
-    lose(2);
-    compare::text(b"trap: draining before the hazard is zeroed\n");
-    differ(3);
-    compare::text(b"trap: freeing at the last match of a scan\n");
-    differ(4);
-    lose(4);
-    compare::text(b"trap: scanning only other threads' slots\n");
-    differ(5);
-    lose(5);
-    compare::text(b"trap: idle after a sweep's scan\n");
-    differ(6);
-    compare::text(b"trap: sweeping before the hazard is stored\n");
-    differ(7);
+pub fn all(rt: &impl Print) -> io::Result<()> {
+    compare::text(rt, "trap: moving on after a swap\n")?;
+    differ(rt, 1)?;
+    lose(rt, 1)?;
+    compare::text(rt, "trap: marking at publication\n")?;
+    differ(rt, 2)?;
+    lose(rt, 2)?;
+    compare::text(rt, "trap: draining before the hazard is zeroed\n")?;
+    differ(rt, 3)?;
+    compare::text(rt, "trap: freeing at the last match of a scan\n")?;
+    differ(rt, 4)?;
+    lose(rt, 4)?;
+    compare::text(rt, "trap: scanning only other threads' slots\n")?;
+    differ(rt, 5)?;
+    lose(rt, 5)?;
+    compare::text(rt, "trap: idle after a sweep's scan\n")?;
+    differ(rt, 6)?;
+    compare::text(rt, "trap: sweeping before the hazard is stored\n")?;
+    differ(rt, 7)
 }

@@ -3,6 +3,7 @@
 use crate::case::Case;
 use crate::seen::{Seen, Tried};
 use crate::{seen, show, stage, table};
+use std::io;
 
 fn line(row: usize) -> usize {
     match row {
@@ -48,13 +49,14 @@ pub fn nth(n: usize) -> Tried {
     seen::nothing()
 }
 
-pub fn show(s: Seen) {
+pub fn show(rt: &impl Print, s: Seen) -> io::Result<()> {
     let names = [23, 23, 23, 24, 25, 26, 31, 0, 0, 0, 0, 0];
     show::table(
-        b"refusals seen for operations 1 to 7: 23 for the slot, the link, the tag, 24, 25, 26, 31, and 0 accepted",
+        rt,
+        "refusals seen for operations 1 to 7: 23 for the slot, the link, the tag, 24, 25, 26, 31, and 0 accepted",
         s,
         names,
         56,
         7,
-    );
+    )
 }

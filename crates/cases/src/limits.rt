@@ -1,6 +1,7 @@
 // Starting at both sides of both limits of each size, the three others at their limits.
 use crate::seen::{Seen, Tried};
 use crate::{seen, show, stage};
+use std::io;
 
 // "T threads 1 to 8, H hazard slots per thread 1 to 4, L links 1 to 16, N objects 1 to 240".
 fn most(size: usize) -> usize {
@@ -82,13 +83,14 @@ pub fn nth(n: usize) -> Tried {
     seen::nothing()
 }
 
-pub fn show(s: Seen) {
+pub fn show(rt: &impl Print, s: Seen) -> io::Result<()> {
     let names = [8, 4, 16, 240, 0, 0, 0, 0, 0, 0, 0, 0];
     show::table(
-        b"sizes T to 8, H to 4, L to 16, N to 240 seen: 0 refused, 1 started, the most started, one more refused",
+        rt,
+        "sizes T to 8, H to 4, L to 16, N to 240 seen: 0 refused, 1 started, the most started, one more refused",
         s,
         names,
         16,
         4,
-    );
+    )
 }

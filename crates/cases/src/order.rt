@@ -6,6 +6,7 @@
 use crate::case::Case;
 use crate::seen::{Seen, Tried};
 use crate::{seen, show, stage, table};
+use std::io;
 
 // The lines of 01's table, from 0.
 fn line(row: usize) -> usize {
@@ -67,13 +68,14 @@ pub fn nth(n: usize) -> Tried {
     seen::nothing()
 }
 
-pub fn show(s: Seen) {
+pub fn show(rt: &impl Print, s: Seen) -> io::Result<()> {
     let names = [19, 21, 22, 23, 24, 25, 26, 27, 28, 29, 31, 30];
     show::table(
-        b"refusals seen while a later one applied too: 19 21 22 23 24 25 26 27 28 29 31 30",
+        rt,
+        "refusals seen while a later one applied too: 19 21 22 23 24 25 26 27 28 29 31 30",
         s,
         names,
         144,
         12,
-    );
+    )
 }

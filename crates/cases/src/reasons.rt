@@ -5,6 +5,7 @@ use crate::stage::Setting;
 use crate::{limits, seen, show, stage};
 use entries::Phase;
 use machine::State;
+use std::io;
 
 // Every `of_..` below gives reason number `k` of its clause: the unsound state where `bad`, and otherwise its neighbour.
 
@@ -254,9 +255,10 @@ pub fn nth(n: usize) -> Tried {
     seen::nothing()
 }
 
-pub fn show(s: Seen) {
+pub fn show(rt: &impl Print, s: Seen) -> io::Result<()> {
     compare::text(
-        b"states seen that are unsound for one reason, each before its sound neighbours
+        rt,
+        "states seen that are unsound for one reason, each before its sound neighbours
   1 T below, above, H below, above, L below, above, N below, above
   2 above N in a link, a hand, a handover, a hazard; Loaded's slot, link, object; Published's slot
   3 Published's link; Draining's slot; Look's object above N, object 0, position; Swap's object above N, object 0, position
@@ -267,13 +269,14 @@ pub fn show(s: Seen) {
   8 an object free and in a link, a hand, a handover, carried; in a link and a link, a hand, a handover, carried
   9 in a hand and a hand, a handover, carried; in a handover and a handover, carried; carried twice
 ",
-    );
+    )?;
     let names = [1, 2, 3, 4, 5, 6, 7, 8, 9, 10, 0, 0];
     show::table(
-        b"  10 blank but for a link, a hand, a phase, a hazard, a mark, a handover, a free mark, a tag",
+        rt,
+        "  10 blank but for a link, a hand, a phase, a hazard, a mark, a handover, a free mark, a tag",
         s,
         names,
         160,
         16,
-    );
+    )
 }

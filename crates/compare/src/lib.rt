@@ -1,5 +1,6 @@
 // The first machine's state, calls and answers as plain numbers, and one call on any state by both machines.
 #![tactic(auto)]
+
 mod both;
 mod five;
 mod numbers;

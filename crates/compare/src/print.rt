@@ -1,8 +1,10 @@
 // To standard output.
-pub fn text(s: &[u8]) {
-    let _ok = io::write_all(1, s);
+use std::io;
+
+pub fn text(rt: &impl Print, s: &str) -> io::Result<()> {
+    rt.print(s)
 }
 
-pub fn number(n: usize) {
-    let _ok = io::print_decimal(1, n as u64);
+pub fn number(rt: &impl Print, n: usize) -> io::Result<()> {
+    rt.print(n)
 }

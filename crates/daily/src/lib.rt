@@ -1,2 +1,2 @@
-// No code: request 2's promise, that nothing waits all day beside a slot in daily use, is stated and proved in specs/.
+// No code: request 2's promise, that nothing waits all day beside a slot in daily use, is defined in specs/, stated and proved in proofs/.
 #![tactic(auto)]

@@ -1,2 +1,2 @@
-// Statements only: document 01's edges and the machines it rules out, in specs/.
+// No code: document 01's edges and the machines it rules out, as tables in specs/, which proofs/ computes.
 #![tactic(auto)]

@@ -1,2 +1,2 @@
-// No code: demand 3 is stated in specs/Promise.antt, and proved.
+// No code: demand 3 is stated in specs/Promise.antt, and proved in proofs/Promise.antt.
 #![tactic(auto)]

@@ -2,10 +2,7 @@
 -- one, and for two machines that nobody would accept. Draining before the hazard is zeroed is not among them: of that one it is shown, in the
 -- traps of crate edges, that on some calls it leaves an object in the handover of a slot without hazard where document 01's machine leaves
 -- none. Nothing is freed too early there, and neither that the promise holds of it nor that it fails is shown.
-use Rattle.std.specs.Prelude.{ℕ, ◌≡◌, refl, Bool, true, false, ◌&&◌, List, [], ◌∷◌, ◌++◌, eqb, ltb, leb, take}
-use Rattle.std.proofs.Common.{arith, sym, ap, ◌∙◌, subst, eq-eqb, ltb-true, leb-true}
-use Rattle.std.proofs.Math.Path.{subst⁻¹, fun_ext}
-use Rattle.std.proofs.lemmas.Bool.{false≢true}
+use Rattle.std.specs.Prelude.{ℕ, ◌≡◌, Bool, true, false, ◌&&◌, List, [], ◌∷◌, ◌++◌, eqb, ltb, leb, take}
 use Rattle.entries.specs.declared.Sizes.{Sizes}
 use Rattle.machine.specs.declared.Call.{Call}
 use Rattle.machine.specs.declared.Answer.TheVariants.{Freed}
@@ -13,17 +10,14 @@ use Rattle.entries.specs.Sizes.{positions}
 use Rattle.machine.specs.Parts.{slot_at, free_at}
 use Rattle.machine.specs.Answers.{Numbers}
 use Rattle.edges.specs.Runs.{sizes, call, on}
-use Rattle.edges.specs.Rules.{Change, machine_of, done_by, when_loaded, when_look, when_swap}
-use Rattle.edges.specs.TrapRules.{hand_over_and_move_on, publish_and_mark, look_by, last_met, parked, take_and_park, marks_at_once, mirrors_links, parks_the_last}
+use Rattle.edges.specs.Rules.{Change, machine_of}
+use Rattle.edges.specs.TrapRules.{marks_at_once, mirrors_links, parks_the_last}
 use Rattle.edges.specs.Traps.{Trap, moving_on, marking_at_once, freeing_at_last, skipping_own}
-use Rattle.edges.specs.Lemmas.Computing.{computing}
-use Rattle.edges.specs.Lemmas.Quick.{quickly, slow_is_quick, quick_computes}
-use Rattle.basics.specs.Functions.{put}
-use Rattle.promise.specs.Store.{empty_store, tag_of_record, says, next, store_says}
-use Rattle.promise.specs.History.{Machine, history_by, state_by}
-use Rattle.promise.specs.Reading.{no_takes, noted, reading_after, record_of, renamed}
-use Rattle.promise.specs.Asked.{none_asked, remembered}
-use Rattle.promise.specs.Listing.{at_once, listed_of, listing, machine_says}
+use Rattle.promise.specs.Store.{empty_store, store_says}
+use Rattle.promise.specs.History.{Machine}
+use Rattle.promise.specs.Reading.{no_takes, record_of}
+use Rattle.promise.specs.Asked.{none_asked}
+use Rattle.promise.specs.Listing.{listing, machine_says}
 use Rattle.promise.specs.Run.{events_of, end_of, reading_of}
 use Rattle.promise.specs.Promise.{Promised}
 
@@ -79,22 +73,14 @@ rows =
     []
 
 -- two lists of answers, compared number by number
-alike : List Numbers → List Numbers → Bool
+unfoldable pub alike : List Numbers → List Numbers → Bool
 alike [] [] = true
 alike [] (y ∷ ys) = false
 alike (x ∷ xs) [] = false
 alike (x ∷ xs) (y ∷ ys) = eqb x.number y.number && eqb x.a y.a && eqb x.b y.b && alike xs ys
 
-alike_self : (xs : List Numbers) → alike xs xs ≡ true
-unfolding alike
-alike_self [] = refl
-alike_self (x ∷ xs) = rw (eq-eqb x.number x.number refl, eq-eqb x.a x.a refl, eq-eqb x.b x.b refl) (alike_self xs)
-
-differ : (xs ys : List Numbers) → alike xs ys ≡ false → xs ≡ ys → ⊥
-differ xs ys h e = false≢true (sym h ∙ subst (λ (zs : List Numbers). alike xs zs ≡ true) e (alike_self xs))
-
 -- the fault, as the checker computes it
-Shows : Machine → Sizes → List Call → Fault → Type 0
+unfoldable pub Shows : Machine → Sizes → List Call → Fault → Type 0
 Shows machine z calls answers =
     alike
     (store_says z.slots empty_store (listing none_asked (events_of machine z calls)))
@@ -116,39 +102,9 @@ abbrev pub Each : (Row → Type 0) → List Row → Type 0
 Each holds [] = Unit {0}
 Each holds (r ∷ rs) = holds r × Each holds rs
 
-abbrev ShownBy : (Change → Machine) → Row → Type 0
+abbrev pub ShownBy : (Change → Machine) → Row → Type 0
 ShownBy machine r = Shows (machine r.change) r.sizes r.calls r.fault
-
-shown_quickly : Each (ShownBy (λ change. quickly (done_by change))) rows
-unfolding rows Shows alike moving_on marking_at_once freeing_at_last skipping_own done_by when_loaded when_look when_swap hand_over_and_move_on publish_and_mark look_by last_met parked take_and_park put tag_of_record says next store_says history_by state_by noted reading_after record_of renamed remembered at_once listed_of listing machine_says computing quick_computes
-shown_quickly =
-    ((refl, refl, refl, refl), (refl, ((refl, refl, refl, refl), (refl, ((refl, refl, refl, refl), (refl, ((refl, refl, refl, refl), (refl, (refl, ((refl, refl, refl, refl), tt))))))))))
-
-shown : Each (ShownBy machine_of) rows
-unfolding machine_of
-shown =
-    subst⁻¹ (λ (machine : Change → Machine). Each (ShownBy machine) rows)
-    (fun_ext (λ change. slow_is_quick (done_by change)))
-    shown_quickly
-
--- each fault is a part of the promise that fails
-broken : (machine : Machine) (z : Sizes) (calls : List Call) (fault : Fault) → Shows machine z calls fault → Promised machine z calls → ⊥
-unfolding Shows
-broken machine z calls answers differs kept = differ _ _ differs kept.same_answers
-broken machine z calls (frees last object p) (freed, inside, marked, held) kept =
-    (kept.freed_unheld last object freed).0.slots p (ltb-true _ _ inside) marked held
-broken machine z calls (untaken object) (some, most, taken, none) kept =
-    let known = kept.same_records.recorded object (record { some = ltb-true _ _ some; most = leb-true _ _ most; kept = taken }) in
-    let some' = known.0 in
-    omega arith
 
 -- the changed machine of the row breaks the promise on the row's calls
 abbrev pub Broken : Row → Type 0
 Broken r = Promised (machine_of r.change) r.sizes r.calls → ⊥
-
-each_broken : (rs : List Row) → Each (ShownBy machine_of) rs → Each Broken rs
-each_broken [] tt = tt
-each_broken (r ∷ rs) (this, others) = (broken _ _ _ r.fault this, each_broken rs others)
-
-pub none_keeps_the_promise : Each Broken rows
-none_keeps_the_promise = each_broken rows shown

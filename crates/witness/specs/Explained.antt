@@ -1,18 +1,13 @@
 -- The explaining tool's definition computed on runs, one row for each reason, guard and refusal. What is expected was worked out from
 -- document 01's text; each row says how. So none of the promises of crate `reasons` is true for want of such a state.
-use Rattle.std.specs.Prelude.{ℕ, ◌≡◌, refl, List, [], ◌∷◌, ◌++◌, map}
-use Rattle.std.proofs.Math.Path.{subst⁻¹}
+use Rattle.std.specs.Prelude.{ℕ, ◌≡◌, List, [], ◌∷◌, ◌++◌, map}
 use Rattle.machine.specs.declared.Call.{Call}
 use Rattle.machine.specs.Fresh.{fresh_of}
 use Rattle.machine.specs.Parts.{with_link}
-use Rattle.machine.specs.Step.{done_of, step_of}
 use Rattle.edges.specs.Runs.{sizes, call, on}
-use Rattle.edges.specs.Lemmas.Computing.{computing}
-use Rattle.edges.specs.Lemmas.Quick.{quickly, step_is_quick, quick_computes}
 use Rattle.promise.specs.History.{Machine, state_by}
-use Rattle.basics.specs.First.{first_from}
-use Rattle.reasons.specs.Reasons.{guard_of, link_with, hand_with, carrier_of, handover_with, reason_of, hazard_at, hazard_of, refusals, refusal_of, why_of}
-use Rattle.reasons.specs.Numbers.{Numbers, guard_number, reason_number, reason_a, reason_b, hazard_number, hazard_position, numbers_of}
+use Rattle.reasons.specs.Reasons.{why_of}
+use Rattle.reasons.specs.Numbers.{Numbers, numbers_of}
 
 -- a row: the numbers that the definition gives, and those that are expected
 pub record Row : Type 0 where
@@ -106,10 +101,3 @@ rows_of machine =
 
 abbrev pub AsExpected : Machine → Type 0
 AsExpected machine = map (λ (r : Row). r.computed) (rows_of machine) ≡ map (λ (r : Row). r.expected) (rows_of machine)
-
-quickly_explained : AsExpected (quickly done_of)
-unfolding rows_of computing quick_computes state_by first_from guard_of link_with hand_with carrier_of handover_with reason_of hazard_at hazard_of refusals refusal_of why_of guard_number reason_number reason_a reason_b hazard_number hazard_position numbers_of
-quickly_explained = refl
-
-pub explained : AsExpected step_of
-explained = subst⁻¹ AsExpected step_is_quick quickly_explained

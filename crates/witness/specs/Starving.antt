@@ -1,23 +1,18 @@
 -- One object fewer than `enough_records` of crate promise asks for is not enough: with N = L + 2 × T + T × H − 2, a run after which thread 0
 -- takes and nothing is free. For all T and H with one link, for all L with two threads of one slot, and for the largest of all three.
-use Rattle.std.specs.Prelude.{ℕ, suc, ◌*◌, ◌+◌, ◌-◌, ◌≤◌, ◌≡◌, refl, Bool, true, ◌&&◌, List, [], ◌∷◌, ◌++◌, eqb, replicate}
-use Rattle.std.proofs.Common.{arith, sym, ap, ◌∙◌, eqb-true}
+use Rattle.std.specs.Prelude.{ℕ, suc, ◌*◌, ◌+◌, ◌-◌, ◌≤◌, ◌≡◌, Bool, true, ◌&&◌, List, [], ◌∷◌, ◌++◌, eqb, replicate}
 use Rattle.entries.specs.declared.Sizes.{Sizes}
 use Rattle.machine.specs.declared.Call.{Call}
-use Rattle.machine.specs.declared.Outcome.{Outcome}
 use Rattle.machine.specs.declared.Answer.{Answer}
-use Rattle.machine.specs.declared.Answer.TheVariants.{Refused, Taken, Begun, Working, Protected, Nothing, Swapped, Moved, Tag, Finished, Left, Freed}
+use Rattle.machine.specs.declared.Answer.TheVariants.{Refused}
 use Rattle.machine.specs.Fresh.{fresh_of}
 use Rattle.machine.specs.Answers.{numbers_of}
-use Rattle.machine.specs.Computing.{machine_computes}
 use Rattle.machine.specs.Step.{step_of}
 use Rattle.entries.specs.Sizes.{in_range}
-use Rattle.basics.specs.Tests.{and_l, and_r}
-use Rattle.basics.specs.Under.{all_under, from_one}
 use Rattle.edges.specs.Runs.{sizes, call, on}
 use Rattle.promise.specs.History.{state_by}
 use Rattle.promise.specs.Run.{state}
-use Rattle.witness.specs.Unchecked.{unchecked, same_next}
+use Rattle.witness.specs.Unchecked.{unchecked}
 use Rattle.witness.specs.Reached.{each, leave}
 
 -- thread 0 takes an object and puts it into the link
@@ -42,10 +37,10 @@ starving t h l =
     each h (λ slot. leave h 0 slot) ++
     each l fill
 
-abbrev sizes_for : ℕ → ℕ → ℕ → Sizes
+abbrev pub sizes_for : ℕ → ℕ → ℕ → Sizes
 sizes_for t h l = sizes t h l (l + 2 * t + t * h - 2)
 
-abbrev take : Call
+abbrev pub take : Call
 take = call 0 1 0 0 0
 
 -- the sizes are in range, and after the run the take is refused 30: "take: no object free"
@@ -60,58 +55,8 @@ pub record NotEnough : Type 0 where
   pub most : Starves 8 4 16
 
 -- the take's answer on the machine that does not look for 19
-abbrev answer_on : ℕ → ℕ → ℕ → Answer
+abbrev pub answer_on : ℕ → ℕ → ℕ → Answer
 answer_on t h l = (unchecked (state_by unchecked (fresh_of (sizes_for t h l)) (starving t h l)) take).answer
 
-abbrev starves : ℕ → ℕ → ℕ → Bool
+abbrev pub starves : ℕ → ℕ → ℕ → Bool
 starves t h l = in_range (sizes_for t h l) && eqb (numbers_of (answer_on t h l)).number 30
-
-one_link : all_under 8 (λ k. all_under 4 (λ i. starves (suc k) (suc i) 1)) ≡ true
-unfolding machine_computes unchecked each starving state_by
-one_link = refl
-
-more_links : all_under 16 (λ j. starves 2 1 (suc j)) ≡ true
-unfolding machine_computes unchecked each starving state_by
-more_links = refl
-
-most : starves 8 4 16 ≡ true
-unfolding machine_computes unchecked each starving state_by
-most = refl
-
--- only a refusal has a number above 11
-refused : (answer : Answer) → (numbers_of answer).number ≡ 30 → answer ≡ Refused 30
-unfolding numbers_of
-refused (Refused number) e = ap Refused e
-refused (Taken object) e = absurd (omega arith)
-refused (Begun object) e = absurd (omega arith)
-refused (Working work) e = absurd (omega arith)
-refused (Protected object tag) e = absurd (omega arith)
-refused Nothing e = absurd (omega arith)
-refused (Swapped object) e = absurd (omega arith)
-refused Moved e = absurd (omega arith)
-refused (Tag tag) e = absurd (omega arith)
-refused Finished e = absurd (omega arith)
-refused (Left object position) e = absurd (omega arith)
-refused (Freed object) e = absurd (omega arith)
-
--- and so does the machine itself
-itself : (t h l : ℕ) → starves t h l ≡ true → Starves t h l
-itself t h l e =
-    let z = sizes_for t h l in
-    let good = and_l (in_range z) _ e in
-    let thirty = refused (answer_on t h l) (eqb-true _ 30 (and_r (in_range z) _ e)) in
-    (good, sym (ap (λ (o : Outcome). o.answer) (same_next z good (starving t h l) take)) ∙ thirty)
-
-pub one_fewer_is_not_enough : NotEnough
-one_fewer_is_not_enough =
-    record {
-      one_link = λ t h low high low' high'. itself t h 1 (with_one t h low high low' high');
-      more_links = λ l low high. itself 2 1 l (with_more l low high);
-      most = itself 8 4 16 most;
-    }
-  where
-    with_one : (t h : ℕ) → 1 ≤ t → t ≤ 8 → 1 ≤ h → h ≤ 4 → starves t h 1 ≡ true
-    with_one t h low high low' high' = from_one 4 (λ i. starves t i 1) (from_one 8 (λ k. all_under 4 (λ i. starves k (suc i) 1)) one_link t low high) h low' high'
-
-    with_more : (l : ℕ) → 1 ≤ l → l ≤ 16 → starves 2 1 l ≡ true
-    with_more = from_one 16 (starves 2 1) more_links

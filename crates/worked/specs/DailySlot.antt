@@ -1,11 +1,7 @@
 -- A slot in daily use that never clears (`schedules/daily-slot.txt`), computed up to the till's third take: the screen task frees object 1 in the
 -- middle of its second protect, without a clear, and the till gets object 1 again.
-use Rattle.std.specs.Prelude.{ℕ, ◌≡◌, refl, List, [], ◌∷◌}
-use Rattle.std.proofs.Common.{◌∙◌}
+use Rattle.std.specs.Prelude.{ℕ, List, [], ◌∷◌}
 use Rattle.lines.specs.Line.{Line, numbers, end}
-use Rattle.lines.specs.Run.{lines_of}
-use Rattle.schedule.specs.Input.{input_of}
-use Rattle.worked.specs.Printing.{quick_lines, lines_quick, printing}
 
 -- sizes 2 1 1 2, then the first 25 steps as records
 unfoldable pub schedule : List ℕ
@@ -69,10 +65,3 @@ printed =
     numbers (25 ∷ 0 ∷ 1 ∷ 1 ∷ 1 ∷ 0 ∷ []) ∷
     end (25 ∷ 0 ∷ 1 ∷ 1 ∷ 0 ∷ 0 ∷ []) ∷
     []
-
-quickly : quick_lines (input_of schedule) ≡ printed
-unfolding printing schedule printed
-quickly = refl
-
-pub day_run : lines_of schedule ≡ printed
-day_run = lines_quick schedule ∙ quickly

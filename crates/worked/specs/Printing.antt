@@ -1,6 +1,6 @@
 -- What is printed of an input, by the machine that does not look for 19: the same lines, computed in moments. Nothing here has to be believed.
 use Rattle.std.specs.Prelude.{ℕ, ◌≡◌, refl, true, List, []}
-use Rattle.std.proofs.Common.{sym, ◌∙◌}
+use Rattle.std.proofs.Common.{◌∙◌}
 use Rattle.entries.specs.declared.Sizes.{Sizes}
 use Rattle.entries.specs.Sizes.{in_range}
 use Rattle.machine.specs.declared.Call.{Call}
@@ -11,13 +11,13 @@ use Rattle.records.specs.Bytes.{number_of}
 use Rattle.records.specs.Reading as reading
 use Rattle.records.specs.Rest.{rest_after, rest_of}
 use Rattle.promise.specs.History.{history_by, state_by}
-use Rattle.lines.specs.Line.{Line, stop}
+use Rattle.lines.specs.Line.{Line}
 use Rattle.lines.specs.Run.{lines_of}
 use Rattle.sentences.specs.Told as told
 use Rattle.promise.specs.Run.{end_of}
 use Rattle.schedule.specs.Input.{Ending, ended, stopped, Input, run, no_run, calls_at, calls_up_to, after, ending_at, sized, begun, input_of}
 use Rattle.printed.specs.Printed.{event_line, event_lines, ending_line, lines_of_run, lines_of_input, sentences_of_input}
-use Rattle.printed.specs.Promise.{lines_are_events, sentences_of_state, sizes_in_range}
+use Rattle.printed.proofs.Promise.{lines_are_events, sentences_of_state, sizes_in_range}
 use Rattle.witness.specs.Unchecked.{unchecked, same_events, same_end}
 
 unfoldable pub quick_lines : Input → List Line

@@ -1,10 +1,6 @@
 -- Every way in which a short input stops a run, and a refused step that does not, computed as one table.
-use Rattle.std.specs.Prelude.{ℕ, ◌≡◌, refl, List, [], ◌∷◌, ◌++◌, map}
-use Rattle.std.proofs.Math.Path.{subst⁻¹, fun_ext}
+use Rattle.std.specs.Prelude.{ℕ, List, [], ◌∷◌, ◌++◌}
 use Rattle.lines.specs.Line.{Line, numbers, end, stop}
-use Rattle.lines.specs.Run.{lines_of}
-use Rattle.schedule.specs.Input.{input_of}
-use Rattle.worked.specs.Printing.{quick_lines, lines_quick, printing}
 
 pub record Row : Type 0 where
   pub input : List ℕ
@@ -57,10 +53,3 @@ table =
     (sizes ++ take ++ take
     gives first ∷ taken ∷ numbers (2 ∷ 0 ∷ 1 ∷ 28 ∷ 0 ∷ 0 ∷ []) ∷ end (2 ∷ 1 ∷ 0 ∷ 1 ∷ 0 ∷ 0 ∷ []) ∷ []) ∷
     []
-
-quickly : map (λ row. quick_lines (input_of row.input)) table ≡ map (λ row. row.lines) table
-unfolding printing table
-quickly = refl
-
-pub stops : map (λ row. lines_of row.input) table ≡ map (λ row. row.lines) table
-stops = subst⁻¹ (λ (lines : List ℕ → List Line). map (λ row. lines row.input) table ≡ map (λ row. row.lines) table) (fun_ext lines_quick) quickly

