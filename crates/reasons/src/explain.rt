@@ -3,7 +3,7 @@ ghost use Rattle.std.specs.Prelude.{◌≡◌};
 ghost use Rattle.reasons.specs.Reasons.{reason_of, refusal_of, why_of};
 
 use crate::hazards::{first_hazard, guard_of};
-use crate::places::{carrier_of, hand_with, handover_with, link_with};
+use crate::searches::{carrier_of, hand_with, handover_with, link_with};
 use crate::{Explained, Reason};
 use entries::scan_position;
 use machine::State;

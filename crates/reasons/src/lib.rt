@@ -1,8 +1,9 @@
 // Why an object is still kept: the one place that it is in, and the first slot in scan order that names it.
 #![tactic(auto)]
+
 mod explain;
 mod hazards;
-mod places;
+mod searches;
 
 pub use explain::why;
 

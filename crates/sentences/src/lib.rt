@@ -1,5 +1,6 @@
 // Why each object is still here when the run of a schedule has ended, in words.
 #![tactic(auto)]
+
 mod ending;
 mod first;
 mod objects;

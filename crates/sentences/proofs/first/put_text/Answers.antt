@@ -1,0 +1,14 @@
+-- `sentences::first::put_text` meets its contract: the text of the run of the machine that was opened, or nothing.
+use Rattle.sentences.specs.Told.{text_at, text_of}
+use Rattle.text.specs.Nothing.{nothing}
+use Rattle.sentences.proofs.Endings.{good_end, refused_end}
+use Rattle.sentences.proofs.first.put_text.Goals as goal
+
+pub returns-in-Good : goal.returns-in-Good
+unfolding text_of
+returns-in-Good c = rw (good_end _ _ c.open-opened.ensures c.in-Good.is, ← c.rest-left.ensures)
+    c.put_end.ensures
+
+pub returns-in-Refused : goal.returns-in-Refused
+unfolding text_of text_at
+returns-in-Refused c = rw (refused_end _ _ c.open-opened.ensures _ c.in-Refused.is) (nothing _ _)

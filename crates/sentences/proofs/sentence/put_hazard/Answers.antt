@@ -1,0 +1,15 @@
+-- `sentences::sentence::put_hazard` meets its contract: each arm writes the words that `hazard_words` has for it.
+use native.Mathlib.Omega.{arith}
+use Rattle.text.specs.Putting.{fitted}
+use Rattle.basics.specs.Ascii.{ascii}
+use Rattle.text.specs.Words.{filled}
+use Rattle.sentences.specs.Sentence.{hazard_words}
+use Rattle.sentences.proofs.sentence.put_hazard.Goals as goal
+
+pub returns-in-At : goal.returns-in-At
+unfolding hazard_words filled ascii
+returns-in-At c = (omega (arith, c.put_filled.ensures.within), rw (c.in-At.is, ← c.thread_of-thread.ensures, ← c.slot_of-slot.ensures) (fitted (omega arith) c.put_filled.ensures.put))
+
+pub returns-in-Nowhere : goal.returns-in-Nowhere
+unfolding hazard_words filled ascii
+returns-in-Nowhere c = (omega (arith, c.put_filled-in-Nowhere.ensures.within), rw c.in-Nowhere.is (fitted (omega arith) c.put_filled-in-Nowhere.ensures.put))
