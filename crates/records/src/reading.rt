@@ -15,6 +15,7 @@ fn number(a: u8, b: u8, c: u8, d: u8) -> u32
 }
 
 // Whether the input starts with the mark whose second byte is this.
+#[tactic(auto, unfolding(crate::specs::Marks::marked))]
 fn is_marked(input: &[u8], second: u8) -> bool
     requires { 10 ≤ length input.now }
     ensures { result ≡ marked (84 ∷ second ∷ []) input.now }
@@ -70,6 +71,7 @@ fn zeros_at_end(input: &[u8]) -> bool
 }
 
 // What stands at the front of the input.
+#[tactic(auto, using(crate::proofs::Lemmas::Cases::reads_short))]
 pub fn read(input: &[u8]) -> Read
     ensures { result ≡ read_of input.now }
 {

@@ -6,6 +6,7 @@ ghost use Rattle.records.specs.Writing.{answer_of, written_of};
 use crate::{SizesRecord, StepRecord, Written};
 
 // Ten bytes over the first ten of the buffer, or a refusal where it is shorter.
+#[tactic(auto, unfolding(crate::specs::Writing::answer_of, crate::specs::Writing::written_of))]
 fn put(buf: &mut [u8], bytes: [u8; 10]) -> Written
     ensures answer { result ≡ answer_of buf.old }
     ensures bytes { buf.new ≡ written_of bytes buf.old }

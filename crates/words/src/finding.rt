@@ -4,6 +4,7 @@ ghost use Rattle.words.specs.Words.{kind_of, goes_on, run_of, least_of, word_at,
 
 use crate::{Kind, Run, Word};
 
+#[tactic(auto, unfolding(crate::specs::Words::kind_of))]
 fn kind(b: u8) -> Kind
     ensures { result ≡ kind_of b }
 {

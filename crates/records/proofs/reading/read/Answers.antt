@@ -1,13 +1,10 @@
 -- `records::reading::read` meets its contract: the tests that led to each `return` are those of one case of `read_of`.
 use Rattle.std.proofs.Common.{sym, arith}
-use Rattle.records.proofs.Lemmas.Cases.{reads_end, reads_short, reads_other, reads_step, reads_nonzero, reads_sizes}
+use Rattle.records.proofs.Lemmas.Cases.{reads_end, reads_other, reads_step, reads_nonzero, reads_sizes}
 use Rattle.records.proofs.reading.read.Goals as goal
 
 pub returns-then-input-eq0 : goal.returns-then-input-eq0
 returns-then-input-eq0 c = sym (reads_end _ c.if-input-eq0.true)
-
-pub returns-then-input-lt10 : goal.returns-then-input-lt10
-returns-then-input-lt10 c = sym (reads_short _ c.if-input-eq0.false c.if-input-lt10.true)
 
 pub returns-then-is_marked : goal.returns-then-is_marked
 returns-then-is_marked c = rw c.step_at.ensures (sym (reads_step _ (omega arith) (cc)))

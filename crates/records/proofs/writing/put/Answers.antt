@@ -1,7 +1,7 @@
 -- `records::writing::put` meets its contract. The invariant: storing what is left from here on gives what storing all would have given.
-use Prim.Native.Nat.{◌<◌}
+use Prim.Native.Nat.{◌<◌, ◌≤◌}
 use mathlib.Core.Path.{◌≡◌, ◌∙◌}
-use borrow.Author.Tests.{lt-ltb, le-ltb}
+use borrow.Author.Tests.{le-ltb}
 use native.Mathlib.Omega.{arith}
 use native.Mathlib.Numerals.{add-one}
 use lib.ListN.{length, length-set, drop_of_length-le}
@@ -9,14 +9,6 @@ use lib.Seq.{drop-cons}
 use Rattle.records.proofs.Lemmas.Front.{stored}
 use Rattle.records.specs.Writing.{answer_of, written_of}
 use Rattle.records.proofs.writing.put.Goals as goal
-
-pub returns-then-buf-lt10 : goal.returns-then-buf-lt10
-unfolding answer_of written_of
-returns-then-buf-lt10 c =
-    record {
-      answer = simp (lt-ltb _ _ c.if-buf-lt10.true);
-      bytes = simp (lt-ltb _ _ c.if-buf-lt10.true);
-    }
 
 pub loop-i-preserved : goal.loop-i-preserved
 loop-i-preserved c =
@@ -29,9 +21,10 @@ shape_of-buf c = c.loop-i.invariant.1.0
 pub returns : goal.returns
 unfolding answer_of written_of
 returns c =
+    let long : 10 ≤ length c.args.buf.now = omega arith in
     let ten : length c.args.bytes ≡ 10 = omega arith in
     let none = drop_of_length-le c.args.bytes {i = c.loop-i.i} (omega (arith, ten)) in
     record {
-      answer = simp (le-ltb _ _ c.if-buf-lt10.false);
-      bytes = simp (le-ltb _ _ c.if-buf-lt10.false) (rw none at c.loop-i.invariant.1.1 ∙ stored 10 c.args.bytes c.args.buf.now ten c.if-buf-lt10.false);
+      answer = simp (le-ltb _ _ long);
+      bytes = simp (le-ltb _ _ long) (rw none at c.loop-i.invariant.1.1 ∙ stored 10 c.args.bytes c.args.buf.now ten long);
     }
