@@ -16,6 +16,8 @@ USE = re.compile(r"^\s*(?:ghost )?use ([^\n{;]*?)(?:\.\{(.*?)\})?(?: as \S+?)?;?
 
 # What the kit's script brought to the spelling that a function of ours now gets: the lemma makes room for the function.
 APART = {"takenOut": ("taken_out", "taken_out_lem"), "lastLine": ("last_line", "last_line_lem")}
+# Named by hand: what it says reads better than the name of the function that it is about.
+BY_HAND = {"five-places": "places_sum"}
 # Made by the kit for each function, and named in the files of proofs: never ours.
 MADE = re.compile(r"^(returns|loop|add|sub|mul|index|bounds|overflow|decreases|invariant)-")
 
@@ -58,7 +60,7 @@ def names():
         new = snake(w)
         if "-" in w and functions.get(new, w) != w:
             new += "_lem" if w in declared else "_holds"
-        table[w] = new
+        table[w] = BY_HAND.get(w, new)
     return table
 
 

@@ -5,7 +5,7 @@ use Rattle.std.proofs.lemmas.Bool.{eqb-false, not-true}
 use Rattle.basics.specs.Tests.{tested, and_l, and_r}
 use Rattle.basics.specs.Rows.{FirstIs, NoneApplies, Row, all_from, first_of, here, later, none, pass, without}
 
--- `first_of` gives that line's number, and 0 where none applies
+-- Where `FirstIs` names a line, `first_of` gives its number, and 0 where none applies
 pub first_is : {rows : List Row} {n : ℕ} → FirstIs rows n → first_of rows ≡ n
 unfolding first_of
 first_is (here {row = row} yes') = rw yes'

@@ -1,4 +1,4 @@
-// Four small functions and, in specs/, the general facts that every crate above may lean on.
+// Four small functions and, in specs/ and proofs/, the general facts that every crate above may lean on.
 #![tactic(auto)]
 
 mod walk;

@@ -3,7 +3,7 @@ use crate::seen::{Seen, Tried};
 use crate::{seen, show, stage};
 use std::io;
 
-// b"T threads 1 to 8, H hazard slots per thread 1 to 4, L links 1 to 16, N objects 1 to 240".
+// "T threads 1 to 8, H hazard slots per thread 1 to 4, L links 1 to 16, N objects 1 to 240".
 fn most(size: usize) -> usize {
     match size {
         0 => 8,
@@ -44,7 +44,7 @@ impl Sides {
         limit(size, side)
     }
 
-    // b"Starting with a size out of range is refused 20 and returns the blank state."
+    // "Starting with a size out of range is refused 20 and returns the blank state."
     fn shown(self) -> bool {
         let t = self.of(0);
         let h = self.of(1);

@@ -1,4 +1,4 @@
-// The order of the refusals: b"The first that applies is given, in this order". Each that can be given while a later one applies
+// The order of the refusals: "The first that applies is given, in this order". Each that can be given while a later one applies
 // too, for every operation of which both speak.
 //
 // 21 is never met with 26 or 28: beyond the sizes of a sound state a thread is idle and its hand is empty. The other pairs that

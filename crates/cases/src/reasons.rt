@@ -27,7 +27,7 @@ fn with_size(mut z: Setting, size: usize, n: usize) -> Setting {
     z
 }
 
-// b"its sizes are in range": T, H, L and N, each below and above. With N at 0 nothing is free; with N at 241 object 241, which
+// "its sizes are in range": T, H, L and N, each below and above. With N at 0 nothing is free; with N at 241 object 241, which
 // has no mark, is in a link.
 fn of_sizes(z: Setting, k: usize, bad: bool) -> State {
     let size = k / 2;
@@ -59,7 +59,7 @@ fn put(s: State, place: usize, at: usize, object: usize) -> State {
     }
 }
 
-// b"all numbers above are in range": what is in a link, a hand, a handover, a hazard.
+// "all numbers above are in range": what is in a link, a hand, a handover, a hazard.
 fn of_objects(z: Setting, k: usize, bad: bool) -> State {
     let s = stage::fresh(z);
     let object = stage::either(bad, plain::up(z.objects), z.objects);
@@ -70,7 +70,7 @@ fn of_objects(z: Setting, k: usize, bad: bool) -> State {
 }
 
 // The same of what a thread is in the middle of: Loaded's slot, link and object, Published's slot and link, Draining's slot;
-// Look's object above N, its object 0, its position; and Swap's three. Then, of request 2's b"both are in range", Sweeping's slot
+// Look's object above N, its object 0, its position; and Swap's three. Then, of request 2's "both are in range", Sweeping's slot
 // and link, and for its Look and its Swap those three, slot and link.
 fn doing(k: usize) -> usize {
     match k {
@@ -116,7 +116,7 @@ fn of_phases(z: Setting, k: usize, bad: bool) -> State {
     stage::thread(s, stage::last(z.threads), 0, phase)
 }
 
-// b"entries beyond the sizes are 0, idle or unmarked": the first link, hand, phase, hazard, mark, handover, free mark and tag
+// "entries beyond the sizes are 0, idle or unmarked": the first link, hand, phase, hazard, mark, handover, free mark and tag
 // beyond. No object is there, so that none is in two places. A mark there is on a hazard that has to be 0 too.
 fn of_beyond(z: Setting, k: usize, bad: bool) -> State {
     let s = stage::fresh(z);
@@ -147,7 +147,7 @@ fn of_moved(z: Setting, k: usize, bad: bool) -> State {
     put(stage::taken(stage::fresh(z), 1), k % 4 + 2, at, 1)
 }
 
-// b"a protected mark stands only on a hazard that is not 0"; then b"every object 1 to N is in exactly one place": in none.
+// "a protected mark stands only on a hazard that is not 0"; then "every object 1 to N is in exactly one place": in none.
 fn of_mark_or_none(z: Setting, k: usize, bad: bool) -> State {
     let s = stage::fresh(z);
     if k == 0 {
@@ -187,7 +187,7 @@ fn of_two(z: Setting, k: usize, bad: bool) -> State {
     if bad { put(s, other, 1, 1) } else { s }
 }
 
-// b"The blank state, all sizes and entries 0, idle and unmarked, is sound too."
+// "The blank state, all sizes and entries 0, idle and unmarked, is sound too."
 fn blank() -> Setting {
     Setting {
         threads: 0,

@@ -15,7 +15,7 @@ use Rattle.edges.specs.Lemmas.Computing.{computing}
 use Rattle.edges.specs.Runs.{four, six, sizes, call, on, started, after, printed, lines_from}
 use Rattle.edges.specs.RuledOut.{Differs, answers_working, keeps_state, refuses_all, retire, scans_at_once, smallest, take, whole_scan}
 
--- It does what is said of it: the object is free after the retire, and the two steps of the scan, 3 and 11 in edge 5, are answered 3 with the
+-- `scans_at_once` does what is said of it: the object is free after the retire, and the two steps of the scan, 3 and 11 in edge 5, are answered 3 with the
 -- same work, since nothing changes any more.
 scans_then_works : (work : State → Call → Work)
     → let said = work_of (work (after (scans_at_once work) (started (sizes 1 1 1 1)) (call 0 1 0 0 7 ∷ call 0 5 0 0 0 ∷ [])) (on 0)) in

@@ -98,7 +98,7 @@ impl State {
     // read: no effect
     pub(crate) fn read(self, thread: u8, slot: u8) -> Outcome
         requires slot_bound { position_of self thread slot < 32 }
-        requires slot_bound_2 { (slot_at self (position_of self thread slot)).hazard ≤ 240 }
+        requires hazard_bound { (slot_at self (position_of self thread slot)).hazard ≤ 240 }
         requires hazard_nonzero { 0 < (slot_at self (position_of self thread slot)).hazard }
         ensures { result ≡ read_of self thread slot }
     {

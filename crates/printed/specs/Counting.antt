@@ -22,4 +22,4 @@ is_freed_line line = eqb (get_or (fields_of line) 3 0) 11
 pub record AddsUp (t h n : ℕ) (lines : List Line) (free links hands handovers carried : ℕ) : Type 0 where
   pub as_many : how_many is_freed_line lines + (handovers + carried) ≡ how_many is_retire_line lines
   pub bound : how_many is_retire_line lines - how_many is_freed_line lines ≤ t * (h + 1)
-  pub five_places_lem : free + links + hands + handovers + carried ≡ n
+  pub places_sum : free + links + hands + handovers + carried ≡ n

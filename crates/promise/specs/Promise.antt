@@ -10,13 +10,17 @@ use Rattle.machine.specs.Parts.{slot_at}
 use Rattle.machine.specs.Count.{five_places}
 use Rattle.basics.specs.Counts.{how_many}
 use Rattle.promise.specs.Store.{empty_store, store_says}
-use Rattle.promise.specs.History.{Machine, history_by, state_by, retires, freed}
+use Rattle.promise.specs.History.{Event, Machine, history_by, state_by, retires, freed}
 use Rattle.promise.specs.Reading.{no_takes}
 use Rattle.promise.specs.Asked.{none_asked}
 use Rattle.promise.specs.Listing.{listing, machine_says}
 use Rattle.promise.specs.Holdings.{SameHoldings, SameRecords, Unheld, waiting, renewals, hands_out}
 use Rattle.promise.specs.GivenUp.{SameGivenUp}
 use Rattle.promise.specs.Run.{events_of, end_of, memory_of, store_of, reading_of, given_of}
+
+-- accepted retires less Freed answers are at most T × (H + 1)
+abbrev pub WithinBound : Sizes → List Event → Type 0
+WithinBound z events = retires events - freed events ≤ z.threads * (z.slots + 1)
 
 pub record Promised (machine : Machine) (z : Sizes) (calls : List Call) : Type 0 where
   -- the store, given the listed calls in their order, answers each as the machine did
@@ -32,9 +36,9 @@ pub record Promised (machine : Machine) (z : Sizes) (calls : List Call) : Type 0
   -- accepted retires less Freed answers are the non-zero handovers plus the carried objects
   pub as_many : freed (events_of machine z calls) + waiting (end_of machine z calls) ≡ retires (events_of machine z calls)
   -- and are at most T × (H + 1)
-  pub bound : retires (events_of machine z calls) - freed (events_of machine z calls) ≤ z.threads * (z.slots + 1)
+  pub bound : WithinBound z (events_of machine z calls)
   -- the five places sum to N
-  pub five_places_lem :
+  pub places_sum :
       let p = five_places (end_of machine z calls) in
       p.free + p.links + p.hands + p.handovers + p.carried ≡ z.objects
   -- no call is answered 19

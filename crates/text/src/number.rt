@@ -4,6 +4,7 @@ ghost use Rattle.text.specs.Decimal.{decimal};
 ghost use Rattle.text.specs.Written.{Appended};
 
 // The digits of a number: those of a tenth of it first, where that is not 0, and then the last one.
+#[tactic(auto, using(crate::specs::Appending::one, crate::specs::Digits::decimal_few))]
 pub(crate) fn put_number(out: &mut [u8], at: usize, n: u32) -> usize
     requires { at + length (decimal n) ≤ length out.old }
     ensures { Appended out.old at (decimal n) out.new result }

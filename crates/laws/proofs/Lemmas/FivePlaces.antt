@@ -1,5 +1,5 @@
 -- The five places of a sound state sum to N: summed over the objects, the places of each are the five counts, and each object has one.
-use Rattle.std.specs.Prelude.{ℕ, suc, ◌+◌, ◌≡◌}
+use Rattle.std.specs.Prelude.{ℕ, suc}
 use native.Mathlib.Omega.{arith}
 use Rattle.machine.specs.declared.State.{State}
 use Rattle.entries.specs.declared.Thread.{Thread}
@@ -14,9 +14,10 @@ use Rattle.machine.specs.Parts.{free_at, link_at, thread_at, slot_at}
 use Rattle.machine.specs.Soundness.{places_holding}
 use Rattle.machine.specs.Sound.{Sound}
 use Rattle.machine.specs.Count.{five_places}
+use Rattle.laws.specs.Promise.{PlacesSum}
 
 module _ (s : State) (h : Sound s) where
-  pub five_sum : let p = five_places s in p.free + p.links + p.hands + p.handovers + p.carried ≡ s.sizes.objects
+  pub five_sum : PlacesSum s
   unfolding five_places places_holding
   five_sum =
       let n = s.sizes.objects in

@@ -12,11 +12,12 @@ use Rattle.machine.specs.declared.Answer.TheVariants.{Refused}
 use Rattle.basics.specs.Tests.{clash}
 use Rattle.basics.specs.Rows.{all_from, NoneApplies, FirstIs, here, later}
 use Rattle.basics.proofs.Rows.{first_is, none_is, first_from_lem}
-use Rattle.machine.specs.Answers.{numbers_of, numbers}
+use Rattle.machine.specs.Answers.{numbers_of}
 use Rattle.machine.specs.Soundness.{sound}
 use Rattle.machine.specs.Refusals.{state_rows, field_rows, thread_rows, object_rows, call_rows, refusals, refusal_of}
 use Rattle.machine.specs.Accepted.{refusals_high}
 use Rattle.machine.specs.Step.{step_of, done_of}
+use Rattle.laws.specs.Promise.{KeepsState}
 use Rattle.laws.specs.Ways.{Way, refused, takes, begins, swaps, moves, reads, retires, clears, publishes, protects, finds_nothing, loads_again, finishes, sweeps, drains, meets, passes, frees, leaves, displaces}
 use Rattle.laws.proofs.Lemmas.Inversion.{way}
 
@@ -53,8 +54,7 @@ module _ (s : State) (c : Call) where
   pub exactly : (k : ℕ) → (step_of s c).answer ≡ Refused k ↔ FirstIs (refusals s c) k
   exactly k = ((λ e. (refused_way (way s c) k e).1), gives k)
 
-  pub keeps_state_lem : (k : ℕ) → (step_of s c).answer ≡ Refused k
-      → ((step_of s c).state ≡ s) × (numbers_of (step_of s c).answer ≡ numbers k 0 0)
+  pub keeps_state_lem : (k : ℕ) → (step_of s c).answer ≡ Refused k → KeepsState s c k
   unfolding numbers_of
   keeps_state_lem k e = ((refused_way (way s c) k e).0, rw e)
 

@@ -77,7 +77,7 @@ module _ (t h l n : ℕ) (lines : List Line) (steps free links hands handovers c
       record {
         as_many = rw (retired, gone, in_handovers_holds, in_carried) p.as_many;
         bound = rw (retired, gone, threads, slots) p.bound;
-        five_places_lem = rw (in_free, in_links_holds, in_hands_holds, in_handovers_holds, in_carried, objects) p.five_places_lem;
+        places_sum = rw (in_free, in_links_holds, in_hands_holds, in_handovers_holds, in_carried, objects) p.places_sum;
       }
   at_ending z calls p (stopped number) e =
       let told = ending_line step_of z calls (stopped number) in

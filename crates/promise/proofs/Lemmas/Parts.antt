@@ -1,5 +1,5 @@
 -- The parts of the promise, from the invariant at the end of a run.
-use Rattle.std.specs.Prelude.{ℕ, ◌+◌, ◌*◌, ◌-◌, ◌<◌, ◌≤◌, ◌≡◌, true, List}
+use Rattle.std.specs.Prelude.{ℕ, ◌+◌, ◌*◌, ◌<◌, ◌≤◌, ◌≡◌, true, List}
 use Rattle.std.proofs.Common.{arith, sym, ap, ◌∙◌, subst}
 use Rattle.entries.specs.declared.Sizes.{Sizes}
 use Rattle.machine.specs.declared.Call.{Call}
@@ -20,6 +20,7 @@ use Rattle.promise.specs.Listing.{listing, machine_says}
 use Rattle.promise.specs.Holdings.{SameHoldings, SameRecords, Unheld, waiting, renewals, hands_out}
 use Rattle.promise.specs.GivenUp.{SameGivenUp, none_given_up}
 use Rattle.promise.specs.Run.{events, state, memory, store, reading, given}
+use Rattle.promise.specs.Promise.{WithinBound}
 use Rattle.promise.proofs.Lemmas.Invariant.{Invariant}
 use Rattle.promise.proofs.Lemmas.Waiting.{waiting_most}
 use Rattle.promise.proofs.Lemmas.Runs.{Run, run}
@@ -57,7 +58,7 @@ module _ (z : Sizes) (h : in_range z ≡ true) (calls : List Call) where
   pub as_many : freed (events z calls) + waiting (state z calls) ≡ retires (events z calls)
   as_many = let count = ended.count in let none = start_waiting z in omega arith
 
-  pub bound : retires (events z calls) - freed (events z calls) ≤ z.threads * (z.slots + 1)
+  pub bound : WithinBound z (events z calls)
   bound =
       let sum = as_many in
       let most : waiting (state z calls) ≤ z.threads * (z.slots + 1) =
@@ -66,8 +67,8 @@ module _ (z : Sizes) (h : in_range z ≡ true) (calls : List Call) where
       in
       omega arith
 
-  pub five_places_lem : let p = five_places (state z calls) in p.free + p.links + p.hands + p.handovers + p.carried ≡ z.objects
-  five_places_lem = five_places_sum (state z calls) (from_sound (state z calls) invariant.sound) ∙ ap (λ (y : Sizes). y.objects) same_sizes
+  pub places_sum : let p = five_places (state z calls) in p.free + p.links + p.hands + p.handovers + p.carried ≡ z.objects
+  places_sum = five_places_sum (state z calls) (from_sound (state z calls) invariant.sound) ∙ ap (λ (y : Sizes). y.objects) same_sizes
 
   pub never_unsound : (next : Call) → (step_of (state z calls) next).answer ≡ Refused 19 → ⊥
   never_unsound next e = sound_never_19 (state z calls) next (from_sound (state z calls) invariant.sound) e

@@ -55,7 +55,7 @@ read-requires c =
     let at = inside _ _ c.requires (rw op) (rw op) in
     let b = limits _ r in
     let held = marked_object _ r _ at ((may _ _ c.requires).objects.marked (rw op)) in
-    record { slot_bound = position_32 _ r _ at; slot_bound_2 = omega arith; hazard_nonzero = held.0 }
+    record { slot_bound = position_32 _ r _ at; hazard_bound = omega arith; hazard_nonzero = held.0 }
 
 pub retire-requires : goal.retire-requires
 retire-requires c = small _ _ c.requires

@@ -7,7 +7,7 @@ pub overflow_sub-o : goal.overflow_sub-o
 overflow_sub-o c = rw c.position-p.ensures c.requires.hazard_nonzero
 
 pub bounds-self-o : goal.bounds-self-o
-bounds-self-o c = rw c.position-p.ensures (omega (arith, c.requires.slot_bound_2))
+bounds-self-o c = rw c.position-p.ensures (omega (arith, c.requires.hazard_bound))
 
 pub returns : goal.returns
 unfolding read_of

@@ -1,16 +1,11 @@
 -- `text::number::put_number` meets its contract. A number's digits are those of a tenth of it, which the call of itself writes, and the last one.
 use Rattle.std.proofs.Common.{length, ap, arith, length-append}
-use Rattle.text.specs.Appending.{one, room_for_one, then_one}
+use Rattle.text.specs.Appending.{room_for_one, then_one}
 use Rattle.text.specs.Digits.{decimal_few, decimal_many}
 use Rattle.text.proofs.number.+put_number.Goals as goal
 
 pub bounds-out-at : goal.bounds-out-at
 bounds-out-at t c = omega (arith, ap length (decimal_few c.args.n (omega arith)))
-
-pub returns-then-n-lt10 : goal.returns-then-n-lt10
-returns-then-n-lt10 t c =
-    let few = decimal_few c.args.n (omega arith) in
-    rw few (one _ _ _ (omega (arith, ap length few)))
 
 pub put_number-next-requires : goal.put_number-next-requires
 put_number-next-requires t c =
