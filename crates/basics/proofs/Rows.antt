@@ -1,8 +1,9 @@
 -- What holds of every table of lines.
 use Rattle.std.specs.Prelude.{ℕ, ◌≤◌, ◌≡◌, refl, Bool, true, false, cond, not, List, [], ◌∷◌, ◌++◌, leb, eqb, Option, Some, None, MatchOption}
+use Rattle.std.specs.Option.{option_or}
 use Rattle.std.proofs.Common.{sym, subst, ⊎_elim, leb-true}
 use Rattle.std.proofs.lemmas.Bool.{eqb-false, not-true}
-use Rattle.basics.specs.Tests.{tested, clash, and_l, and_r}
+use Rattle.basics.specs.Tests.{tested, and_l, and_r}
 use Rattle.basics.specs.Rows.{FirstIs, NoneApplies, Row, all_from, first_of, here, later, none, pass, without}
 
 module _ {A : Type 0} where
@@ -46,19 +47,14 @@ module _ {A : Type 0} where
   none_applies {rows} e = rw e at (first_or_none rows)
 
   -- Two tables, one after the other: a line of the first decides, and where none of them applies the second does.
-  pub stops : (front back : List (Row A)) {a : A} → first_of front ≡ Some a → first_of (front ++ back) ≡ Some a
+  pub first_append : (front back : List (Row A)) → first_of (front ++ back) ≡ option_or (first_of front) (first_of back)
   unfolding first_of
-  stops [] back e = clash (cc)
-  stops (row ∷ rows) back e =
+  first_append [] back = refl
+  first_append (row ∷ rows) back =
       ⊎_elim
-      (λ (yes' : row.applies ≡ true). rw yes' (rw yes' at e))
-      (λ (no' : row.applies ≡ false). rw no' (stops rows back (rw no' at e)))
+      (λ (yes' : row.applies ≡ true). rw yes')
+      (λ (no' : row.applies ≡ false). rw no' (first_append rows back))
       (tested row.applies)
-
-  pub goes_on : {front : List (Row A)} (back : List (Row A)) → NoneApplies front → first_of (front ++ back) ≡ first_of back
-  unfolding first_of
-  goes_on back none = refl
-  goes_on back (pass {row = row} no' rest) = rw no' (goes_on back rest)
 
   -- both tables are passed
   pub none_split : (front : List (Row A)) {back : List (Row A)} → NoneApplies (front ++ back) → NoneApplies front × NoneApplies back

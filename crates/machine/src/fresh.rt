@@ -3,7 +3,7 @@ ghost use Rattle.std.specs.Prelude.{◌≡◌, replicate};
 ghost use Rattle.entries.specs.Entries.{idle_thread, empty_slot};
 ghost use Rattle.machine.specs.Fresh.{start_of};
 
-use crate::{Started, State, Verdict};
+use crate::{Refusal, Started, State};
 use entries::{Phase, Sizes, Slot, Thread, in_range};
 use pool::Pool;
 
@@ -53,7 +53,7 @@ pub fn start(threads: u8, slots: u8, links: u8, objects: u8) -> Started
         let state = resting(sizes, pool);
         Started {
             state,
-            verdict: Verdict::Good,
+            verdict: Ok(()),
         }
     } else {
         let none = Sizes {
@@ -66,7 +66,7 @@ pub fn start(threads: u8, slots: u8, links: u8, objects: u8) -> Started
         let state = resting(none, pool);
         Started {
             state,
-            verdict: Verdict::Refused(20),
+            verdict: Err(Refusal::SizeOutOfRange),
         }
     }
 }
