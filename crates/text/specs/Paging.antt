@@ -1,8 +1,8 @@
 -- Bytes put on a page: the laws of `Appending` and `Putting` for a page, whose buffer stays the same one.
 use Rattle.std.specs.Prelude.{ℕ, ◌+◌, ◌≤◌, ◌<◌, ◌≡◌, refl, List, [], ◌∷◌, ◌++◌, length}
-use Rattle.std.proofs.Common.{◌∙◌, arith, length-append}
+use Rattle.std.proofs.Common.{ap, ◌∙◌, arith, length-append}
 use Rattle.text.specs.declared.page.Page.{Page}
-use Rattle.text.specs.Paged.{Wrote, PutOn}
+use Rattle.text.specs.Paged.{HasRoom, Wrote, WroteWithin, PutOn, PutWholeOn}
 use Rattle.text.specs.Appending as appending
 use Rattle.text.specs.Putting as putting
 use Rattle.text.specs.Nothing.{nothing}
@@ -41,6 +41,20 @@ module _ {room : ℕ} {bytes : List ℕ} {p : Page} where
   -- where there is none, nothing is
   pub put_nowhere : length p.out.now < p.at + room → PutOn room bytes p p
   put_nowhere h = record { same = refl; put = putting.put_nowhere h }
+
+-- what takes no more than the room that there is
+pub put_within : {most : ℕ} {x : List ℕ} {p q : Page} → length x ≤ most → HasRoom most p → PutWholeOn x p q → WroteWithin most p x q
+put_within short room a = record { within = short; wrote = fitted (omega arith) a }
+
+-- the same in two parts
+pub both_within :
+    {most : ℕ} {all : List ℕ} {p q r : Page} (x y : List ℕ) → all ≡ x ++ y → length all ≤ most → HasRoom most p → PutWholeOn x p q →
+    PutWholeOn y q r → WroteWithin most p all r
+both_within {all = all} {p = p} {q = q} x y e short room a b =
+    let cut : length all ≡ length x + length y = ap length e ∙ length-append x y in
+    let first : Wrote p x q = fitted (omega arith) a in
+    let kept = length_after first (omega arith) in
+    record { within = short; wrote = rw e (then first (omega arith) (fitted (omega (arith, first.written.next)) b)) }
 
 -- What is put so far, and the bytes still to come: put from here they give what is to be put in all. The invariant of every loop that puts.
 pub record Leads (p : Page) (rest : List ℕ) (p₀ : Page) (all : List ℕ) : Type 0 where
