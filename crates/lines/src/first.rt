@@ -6,7 +6,6 @@ ghost use Rattle.text.specs.Written.{Appended};
 
 use crate::steps::put_steps;
 use crate::told::{put_sizes, put_stop};
-use machine::Verdict;
 use records::reading::rest;
 use schedule::opening::open;
 
@@ -17,14 +16,9 @@ pub(crate) fn put_text(input: &[u8], out: &mut [u8]) -> usize
 {
     let opened = open(input);
     let state = opened.state;
-    let verdict = opened.verdict;
-    match verdict {
-        Verdict::Good => {
-            let sizes = state.sizes;
-            let next = put_sizes(out, 0, sizes);
-            let left = rest(input);
-            put_steps(left, out, next, state)
-        }
-        Verdict::Refused(number) => put_stop(out, 0, 0, number),
+    if let Err(stop) = opened.verdict {
+        return put_stop(out, 0, 0, stop.number());
     }
+    let next = put_sizes(out, 0, state.sizes);
+    put_steps(rest(input), out, next, state)
 }

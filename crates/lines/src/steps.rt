@@ -9,7 +9,6 @@ ghost use Rattle.text.specs.Written.{Appended};
 use crate::told::{put_end, put_step, put_stop};
 use machine::State;
 use records::reading::rest;
-use schedule::Next;
 use schedule::going::next;
 
 // The lines from a state and the bytes that are left. "It takes each answer apart and prints it as numbers."
@@ -22,22 +21,18 @@ pub(crate) fn put_steps(input: &[u8], out: &mut [u8], at: usize, state: State) -
     let mut now_at = state;
     let mut steps: u32 = 0;
     loop {
-        let found = next(left, steps);
         // what is no call ends the run: a refusal goes to the stop line, the end of the input to the end line
-        let Next::Call(call) = found else {
-            let Next::Stop(number) = found else {
-                let counted = now_at.count();
-                let places = counted.places;
-                return put_end(out, place, steps, places);
-            };
-            return put_stop(out, place, steps + 1, number);
+        let found = match next(left, steps) {
+            Ok(found) => found,
+            Err(stop) => return put_stop(out, place, steps + 1, stop.number()),
+        };
+        let Some(call) = found else {
+            return put_end(out, place, steps, now_at.count().places);
         };
         let done = now_at.step(call);
-        let answer = done.answer;
-        place = put_step(out, place, steps + 1, call, answer);
+        place = put_step(out, place, steps + 1, call, done.answer);
         now_at = done.state;
-        let after = rest(left);
-        left = after;
+        left = rest(left);
         steps += 1;
     }
 }
