@@ -1,5 +1,5 @@
 -- `lines::steps::put_steps` meets its contract.
-use Prim.Native.Nat.{◌+◌, ◌-◌}
+use Prim.Native.Nat.{ℕ, ◌+◌, ◌-◌}
 use mathlib.Core.Path.{◌≡◌, sym, ◌∙◌}
 use mathlib.Core.List.{◌++◌}
 use native.Mathlib.Omega.{arith}
@@ -9,13 +9,13 @@ use Rattle.schedule.specs.Asked.{found_from, found_of}
 use Rattle.schedule.proofs.Turns.{call_room}
 use Rattle.lines.specs.Line.{bytes_of, text}
 use Rattle.lines.specs.Run.{step_line, lines_found}
-use Rattle.text.specs.Appending.{leads_start, leads_on, leads_end}
+use Rattle.text.specs.Paging.{leads_start, leads_on, leads_end}
 use Rattle.lines.proofs.Runs.{step_text, end_text, stop_text}
 use Rattle.lines.proofs.steps.put_steps.Goals as goal
 
 pub loop-found-init : goal.loop-found-init
 unfolding found_of
-loop-found-init c = (omega arith, omega arith, leads_start _ _ _)
+loop-found-init c = (omega arith, omega arith, leads_start _ _)
 
 pub loop-found-preserved : goal.loop-found-preserved
 loop-found-preserved c =
@@ -30,8 +30,8 @@ loop-found-preserved c =
     rw (c.rest-left.ensures, c.step-done.ensures)
     (step_text at.steps at.now_at at.left.now at.invariant.0 c.in-Some.call stands) in (
       omega (arith, call_room _ _ _ stands),
-      omega (arith, c.put_step-place.ensures.0),
-      leads_on _ at.invariant.2 turn (omega (arith, c.put_step-place.ensures.0, c.put_step-place.ensures.1.next, at.invariant.2.size, c.requires.1)) c.put_step-place.ensures.1,
+      omega (arith, c.put_step.ensures.within, c.put_step.ensures.wrote.written.next),
+      leads_on at.invariant.2 turn (omega (arith, c.put_step.ensures.within, at.invariant.2.leads.size, c.requires.1)) c.put_step.ensures.wrote,
     )
 
 pub returns-in_default : goal.returns-in_default
@@ -40,7 +40,7 @@ returns-in_default c =
     let stands : next_of at.steps at.left.now ≡ Ok None = cc in
     leads_end
     (rw (end_text at.steps at.now_at at.left.now at.invariant.0 stands) at at.invariant.2)
-    (rw (← c.count.ensures) c.put_end.ensures.1)
+    (rw (← c.count.ensures) c.put_end.ensures.wrote)
 
 pub returns-in-Err : goal.returns-in-Err
 returns-in-Err c =
@@ -49,4 +49,4 @@ returns-in-Err c =
     (rw
     (stop_text at.steps at.now_at at.left.now at.invariant.0 _ (sym c.next.ensures ∙ c.in-Err.is)) at
     at.invariant.2)
-    (rw (← c.number.ensures) c.put_stop.ensures.1)
+    (rw (← c.number.ensures) c.put_stop.ensures.wrote)
