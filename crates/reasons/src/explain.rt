@@ -5,7 +5,6 @@ ghost use Rattle.reasons.specs.Reasons.{reason_of, refusal_of, why_of};
 use crate::hazards::{first_hazard, guard_of};
 use crate::searches::{carrier_of, hand_with, handover_with, link_with};
 use crate::{Explained, Reason};
-use entries::scan_position;
 use machine::State;
 
 // "Refusals: 19, then 60 object not 1 to N, then 61 object is free"; 0 where the object is kept.
@@ -46,10 +45,9 @@ fn reason_of(state: State, object: u8) -> Reason
     if thread < sizes.threads {
         let t = thread as usize;
         let carrier = threads[t];
-        let phase = carrier.phase;
         return Reason::Carried {
             thread,
-            position: scan_position(phase),
+            position: carrier.phase.scan_position(),
         };
     }
     let slots = state.slots;

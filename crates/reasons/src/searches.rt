@@ -4,7 +4,7 @@ ghost use Rattle.entries.specs.Entries.{idle_thread, empty_slot};
 ghost use Rattle.entries.specs.Phases.{carried_by};
 ghost use Rattle.basics.specs.First.{first};
 
-use entries::{Slot, Thread, carried};
+use entries::{Slot, Thread};
 
 pub(crate) fn link_with(count: u8, links: [u8; 16], object: u8) -> u8
     requires { count ≤ 16 }
@@ -45,8 +45,7 @@ pub(crate) fn carrier_of(count: u8, threads: [Thread; 8], object: u8) -> u8
     while t < count {
         let k = t as usize;
         let thread = threads[k];
-        let phase = thread.phase;
-        if carried(phase) == object {
+        if thread.phase.carried() == object {
             return t;
         }
         t += 1;
