@@ -1,6 +1,7 @@
 // Starting at both sides of both limits of each size, the three others at their limits.
 use crate::seen::{Seen, Tried};
 use crate::{seen, show, stage};
+use plain::Raw;
 use std::io;
 
 // "T threads 1 to 8, H hazard slots per thread 1 to 4, L links 1 to 16, N objects 1 to 240".
@@ -19,7 +20,7 @@ pub fn limit(size: usize, side: usize) -> usize {
         0 => 0,
         1 => 1,
         2 => most(size),
-        _ => plain::up(most(size)),
+        _ => most(size).saturating_add(1),
     }
 }
 
@@ -62,10 +63,10 @@ impl Sides {
         let said = ours.said;
         let twin = ours.twin;
         let raw = compare::raw(theirs.state);
-        let blank = raw.same(plain::empty());
+        let blank = raw == Raw::EMPTY;
         (compare::verdict(verdict) == due)
             & (said.number == due)
-            & raw.same(twin.raw())
+            & (raw == twin.raw())
             & (blank == (due == 20))
     }
 }

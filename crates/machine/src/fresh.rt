@@ -4,7 +4,7 @@ ghost use Rattle.entries.specs.Entries.{idle_thread, empty_slot};
 ghost use Rattle.machine.specs.Fresh.{start_of};
 
 use crate::{Started, State, Verdict};
-use entries::{Phase, Sizes, Slot, Thread, in_range};
+use entries::{Phase, Sizes, Slot, Thread};
 use pool::Pool;
 
 // A state with these sizes and this pool, all else 0 and idle.
@@ -48,7 +48,7 @@ pub fn start(threads: u8, slots: u8, links: u8, objects: u8) -> Started
         links,
         objects,
     };
-    if in_range(sizes) {
+    if sizes.in_range() {
         let pool = Pool::fresh(objects);
         let state = resting(sizes, pool);
         Started {

@@ -4,9 +4,9 @@ ghost use Rattle.basics.specs.Rows.{first_of};
 ghost use Rattle.entries.specs.Entries.{empty_slot};
 ghost use Rattle.machine.specs.Refusals.{uses_slot, uses_link, uses_tag, unused_not_zero, without_slot, reads_slot, field_rows, thread_rows, refusal_of};
 
-use crate::parts::{position, slot_at};
+use crate::parts::slot_at;
 use crate::{Call, State};
-use entries::{Sizes, Slot, Thread, is_idle};
+use entries::{Sizes, Slot, Thread};
 
 // the column "Uses"
 
@@ -68,8 +68,7 @@ fn field_refusal(sizes: Sizes, call: Call) -> u8
 fn thread_refusal(me: Thread, operation: u8) -> u8
     ensures { result ≡ first_of (thread_rows me operation) }
 {
-    let phase = me.phase;
-    let idle = is_idle(phase);
+    let idle = me.phase.is_idle();
     let hand = me.hand;
     if (1 <= operation) & (operation <= 6) & !idle {
         return 26;
@@ -101,7 +100,7 @@ fn unprotected(sizes: Sizes, slots: [Slot; 32], call: Call) -> bool
     if !reads_slot(call) {
         return false;
     }
-    let held = slot_at(slots, position(call.thread, sizes.slots, call.slot));
+    let held = slot_at(slots, sizes.position(call.thread, call.slot));
     !held.mark
 }
 
@@ -132,8 +131,7 @@ impl State {
         }
         // "take: no object free"; only a take looks for one
         if call.operation == 1 {
-            let pool = self.pool;
-            if pool.next() == 0 {
+            if self.pool.next().is_none() {
                 return 30;
             }
         }

@@ -4,7 +4,6 @@ ghost use Rattle.reasons.specs.Reasons.{reason_of, refusal_of, checked_of, why_o
 
 use crate::hazards::{first_hazard, guard_of};
 use crate::{Kept, NotKept, Reason};
-use entries::{carried, scan_position};
 use machine::State;
 
 // "Refusals: 19, then 60 object not 1 to N, then 61 object is free."
@@ -42,9 +41,9 @@ fn reason_of(state: State, object: u8) -> Reason
     if let Some(thread) = (0..sizes.threads).find(|&t| threads[usize::from(t)].hand == object) {
         return Reason::Hand { thread };
     }
-    let carrier = (0..sizes.threads).find(|&t| carried(threads[usize::from(t)].phase) == object);
+    let carrier = (0..sizes.threads).find(|&t| threads[usize::from(t)].phase.carried() == object);
     if let Some(thread) = carrier {
-        let position = scan_position(threads[usize::from(thread)].phase);
+        let position = threads[usize::from(thread)].phase.scan_position();
         return Reason::Carried { thread, position };
     }
     // it is in none of the first three, so it is in the last

@@ -1,20 +1,11 @@
 // What the slots say of an object: the first that holds it as a hazard, and how the one that was left with it guards it.
-ghost use Rattle.std.specs.Prelude.{◌≡◌, ◌+◌, ◌*◌, ◌≤◌, ◌<◌, get_or, eqb};
+ghost use Rattle.std.specs.Prelude.{◌≡◌, ◌≤◌, get_or, eqb};
 ghost use Rattle.entries.specs.Sizes.{positions};
 ghost use Rattle.entries.specs.Entries.{empty_slot};
 ghost use Rattle.reasons.specs.Reasons.{found, guard_of};
 
 use crate::Guard;
 use entries::{Sizes, Slot};
-
-// "A slot's position is thread × H + slot"
-fn position(sizes: Sizes, thread: u8, slot: u8) -> u8
-    requires { thread * sizes.slots + slot < 32 }
-    ensures number { result ≡ thread * sizes.slots + slot }
-    ensures within { result < 32 }
-{
-    thread * sizes.slots + slot
-}
 
 // "the first position in scan order that holds it as a hazard, or none": the slots of thread 0, then those of thread 1, and so on
 pub(crate) fn first_hazard(sizes: Sizes, slots: [Slot; 32], object: u8) -> Option<u8>
@@ -24,7 +15,7 @@ pub(crate) fn first_hazard(sizes: Sizes, slots: [Slot; 32], object: u8) -> Optio
     'scan: {
         for thread in 0..sizes.threads {
             for slot in 0..sizes.slots {
-                let at = position(sizes, thread, slot);
+                let at = sizes.position(thread, slot);
                 if slots[usize::from(at)].hazard == object {
                     break 'scan Some(at);
                 }

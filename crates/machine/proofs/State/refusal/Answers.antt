@@ -1,5 +1,6 @@
 -- `refusal` asks the table group by group: 19, then the fields, then the thread, then the objects.
-use Rattle.std.proofs.Common.{◌≡◌, ◌<◌, ℕ, refl, sym, ◌∙◌, true, eq-eqb, ne_eqb}
+use Rattle.std.proofs.Common.{◌≡◌, ◌<◌, ℕ, refl, sym, ap, ◌∙◌, Bool, true, eqb, eq-eqb, ne_eqb}
+use Rattle.std.specs.Prelude.{Option, not, is_some, is_none}
 use Rattle.basics.specs.Rows.{first_of, NoneApplies, all_from}
 use Rattle.basics.proofs.Rows.{none_applies, stops, goes_on}
 use Rattle.machine.specs.declared.State.{State}
@@ -9,6 +10,9 @@ use Rattle.machine.specs.Soundness.{sound}
 use Rattle.machine.specs.Sound.{to_sound, thread_eight, position_fits}
 use Rattle.machine.specs.Refusals.{reads_slot, field_rows, thread_rows, object_rows, call_rows, refusal_of}
 use Rattle.machine.specs.Accepted.{fields_pass, names_slot, refused_unsound, else_the_rest}
+use Rattle.std.proofs.Math.Bool.{not-not}
+use Rattle.pool.specs.Pool.{object_of}
+use Rattle.pool.specs.Lemmas.Next.{none_is_zero}
 use Rattle.machine.proofs.State.refusal.Goals as goal
 
 -- What each group that was passed says.
@@ -78,25 +82,28 @@ returns-then-unprotected c =
     let thread = sym c.thread_refusal-busy.ensures ∙ c.if-busy-ne0.false in
     sym (rest _ c.args.call good fields thread ∙ rw (← c.unprotected.ensures, c.if-unprotected.true))
 
-pub returns-then-next-eq0 : goal.returns-then-next-eq0
-unfolding first_of object_rows
-returns-then-next-eq0 c =
-    let good = sym c.is_sound.ensures ∙ c.if-not-is_sound.false in
-    let fields = sym c.field_refusal-field.ensures ∙ c.if-field-ne0.false in
-    let thread = sym c.thread_refusal-busy.ensures ∙ c.if-busy-ne0.false in
-    sym
-    (rest _ c.args.call good fields thread ∙
-    rw (← c.unprotected.ensures, c.if-unprotected.false, eq-eqb _ _ c.if-call-eq1.true, ← c.next.ensures.number, eq-eqb _ _ c.if-next-eq0.true))
+none-free : (n : ℕ) {next : Option ℕ} (none : Bool) {r : Bool} → next ≡ object_of n → is_some next ≡ not none → none ≡ r → eqb n 0 ≡ r
+none-free n none e is taken = sym (none_is_zero n) ∙ ap is_none (sym e) ∙ ap not is ∙ not-not none ∙ taken
 
-pub returns-else-next-eq0 : goal.returns-else-next-eq0
+pub returns-then-is_none : goal.returns-then-is_none
 unfolding first_of object_rows
-returns-else-next-eq0 c =
+returns-then-is_none c =
     let good = sym c.is_sound.ensures ∙ c.if-not-is_sound.false in
     let fields = sym c.field_refusal-field.ensures ∙ c.if-field-ne0.false in
     let thread = sym c.thread_refusal-busy.ensures ∙ c.if-busy-ne0.false in
     sym
     (rest _ c.args.call good fields thread ∙
-    rw (← c.unprotected.ensures, c.if-unprotected.false, eq-eqb _ _ c.if-call-eq1.true, ← c.next.ensures.number, ne_eqb _ _ c.if-next-eq0.false))
+    rw (← c.unprotected.ensures, c.if-unprotected.false, eq-eqb _ _ c.if-call-eq1.true, none-free _ _ c.next.ensures.value c.is_none.ensures c.if-is_none.true))
+
+pub returns-else-is_none : goal.returns-else-is_none
+unfolding first_of object_rows
+returns-else-is_none c =
+    let good = sym c.is_sound.ensures ∙ c.if-not-is_sound.false in
+    let fields = sym c.field_refusal-field.ensures ∙ c.if-field-ne0.false in
+    let thread = sym c.thread_refusal-busy.ensures ∙ c.if-busy-ne0.false in
+    sym
+    (rest _ c.args.call good fields thread ∙
+    rw (← c.unprotected.ensures, c.if-unprotected.false, eq-eqb _ _ c.if-call-eq1.true, none-free _ _ c.next.ensures.value c.is_none.ensures c.if-is_none.false))
 
 pub returns-else-call-eq1 : goal.returns-else-call-eq1
 unfolding first_of object_rows

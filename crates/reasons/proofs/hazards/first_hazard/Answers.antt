@@ -16,7 +16,7 @@ returns-then-slots-from c =
     let t = c.loop-thread.thread in
     let l = c.loop-slot in
     let p = c.position-at in
-    let e = p.ensures.number in
+    let e = p.ensures in
     let less = position_less a.sizes.threads a.sizes.slots t l.slot c.loop-thread-test.true c.loop-slot-test.true in
     found_at (a.sizes.threads * a.sizes.slots) (λ j. eqb (get_or a.slots j empty_slot).hazard a.object) p.result
     (omega arith)
