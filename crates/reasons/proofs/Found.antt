@@ -1,6 +1,7 @@
 -- The first of the numbers under n that passes, as a loop or a search over the range finds it.
-use Rattle.std.specs.Prelude.{ℕ, ◌<◌, ◌≤◌, ◌≡◌, Bool, true, false, Option, None, Some, MatchOption, List, ⊤}
+use Rattle.std.specs.Prelude.{ℕ, ◌*◌, ◌<◌, ◌≤◌, ◌≡◌, Bool, true, false, Option, None, Some, MatchOption, List, ⊤}
 use Rattle.std.proofs.Common.{arith, sym, Bor, zero-le, ⊎_elim, subst, ltb}
+use native.Mathlib.Nat.{mul-le-mul_right}
 use borrow.Author.Tests.{lt-ltb, le-ltb, ltb-true, ltb-false}
 use Rattle.basics.specs.Tests.{tested}
 use Rattle.basics.specs.First.{first, first_is, first_none}
@@ -12,6 +13,10 @@ use Rattle.std.proofs.iter.Yields.{nat_range_steps}
 use Rattle.std.proofs.lemmas.Iterator.{first_from_Range}
 use denote.Param.Members.{Mut}
 use Rattle.reasons.specs.Reasons.{found}
+
+-- after the last thread no position is left
+pub at_end_lem : (threads slots t j : ℕ) → threads ≤ t → j < threads * slots → j < t * slots
+at_end_lem threads slots t j past less = let all : threads * slots ≤ t * slots = mul-le-mul_right slots past in omega arith
 
 module _ (n : ℕ) (test : ℕ → Bool) where
   pub found_at : (p : ℕ) → p < n → test p ≡ true → ((j : ℕ) → j < p → test j ≡ false) → Some p ≡ found n test

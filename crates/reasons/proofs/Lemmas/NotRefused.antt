@@ -1,5 +1,5 @@
 -- What is known where no line of the refusals applies.
-use Rattle.std.specs.Prelude.{ℕ, ◌≡◌, true, false, Option, None, Some, Ok, Err}
+use Rattle.std.specs.Prelude.{ℕ, ◌≡◌, Bool, true, false, cond, Option, None, Some, Ok, Err}
 use Rattle.std.proofs.Common.{arith, refl}
 use borrow.Author.Tests.{leb-true, le-leb}
 use Rattle.machine.specs.declared.State.{State}
@@ -9,9 +9,19 @@ use Rattle.machine.specs.Soundness.{sound}
 use Rattle.reasons.specs.Rows.{first_of}
 use Rattle.basics.specs.Tests.{ands}
 use Rattle.reasons.specs.declared.NotKept.{NotKept}
+use Rattle.reasons.specs.declared.NotKept.TheVariants.{Unsound, NoSuchObject, Free}
 use Rattle.reasons.specs.Reasons.{refusals, refusal_of, unless}
 use Rattle.reasons.specs.Applies.{Stays}
 
+none_applies :
+    (a b c : Bool) → ◌≡◌ {A = Option NotKept} (cond a (Some Unsound) (cond b (Some NoSuchObject) (cond c (Some Free) None))) None
+    → (a ≡ false) × (b ≡ false) × (c ≡ false)
+none_applies true b c h = cc
+none_applies false true c h = cc
+none_applies false false true h = cc
+none_applies false false false h = (refl, refl, refl)
+
+-- a refusal is answered, and nothing else is
 pub unless_err : {A : Type 0} (by : Option NotKept) (answer : A) (k : NotKept) → unless by answer ≡ Err k → by ≡ Some k
 unless_err None answer k e = cc
 unless_err (Some refusal) answer k e = cc

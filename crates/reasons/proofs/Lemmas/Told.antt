@@ -1,6 +1,6 @@
 -- What is told of an object: refused by the table, or by its reason and its first hazard.
-use Rattle.std.specs.Prelude.{ℕ, ◌<◌, ◌≤◌, ◌≡◌, true, ◌↔◌, Option, Ok, Err}
-use Rattle.std.proofs.Common.{sym, ◌∙◌}
+use Rattle.std.specs.Prelude.{ℕ, ◌<◌, ◌≤◌, ◌≡◌, true, ◌↔◌, Option, Some, Ok, Err}
+use Rattle.std.proofs.Common.{arith, sym, ◌∙◌}
 use Rattle.std.proofs.lemmas.Bool.{false≢true}
 use Rattle.machine.specs.declared.State.{State}
 use Rattle.machine.specs.Parts.{free_at}
@@ -12,8 +12,9 @@ use Rattle.laws.specs.OnePlace.{link_not_free, hand_not_free, carried_not_free, 
 use Rattle.reasons.specs.declared.Reason.{Reason}
 use Rattle.reasons.specs.declared.Reason.TheVariants.{Link, Hand, Carried, Handover}
 use Rattle.reasons.specs.declared.NotKept.{NotKept}
+use Rattle.reasons.specs.declared.NotKept.TheVariants.{Unsound, NoSuchObject, Free}
 use Rattle.reasons.specs.Reasons.{reason_of, hazard_of, refusals, refusal_of, why_of}
-use Rattle.reasons.specs.Numbers.{numbers_of}
+use Rattle.reasons.specs.Numbers.{number_of, numbers_of}
 use Rattle.reasons.specs.Applies.{Stays, Applies, FirstHazard}
 use Rattle.reasons.proofs.Lemmas.NotRefused.{not_refused, unless_err}
 use Rattle.reasons.proofs.Lemmas.Named.{only_one}
@@ -38,14 +39,28 @@ pub told_as : (s : State) (o : ℕ) → Stays s o → (r : Reason) (h : Option �
 told_as s o stays r h applies first =
     rw (explained s o stays, ← only_one s o stays r applies, ← only_hazard s o h first)
 
+some_number : (k : NotKept) → number_of k ≡ 0 → ⊥
+unfolding number_of
+some_number Unsound e = omega arith
+some_number NoSuchObject e = omega arith
+some_number Free e = omega arith
+
 module _ (s : State) (o : ℕ) (k : NotKept) where
-  refused_by : why_of s o ≡ Err k → FirstIs (refusals s o) k
-  unfolding why_of refusal_of
-  refused_by e = first_some (refusals s o) k (unless_err _ _ k e)
+  is_refused_lem : why_of s o ≡ Err k → refusal_of s o ≡ Some k
+  unfolding why_of
+  is_refused_lem = unless_err _ _ k
+
+  first_of : refusal_of s o ≡ Some k → FirstIs (refusals s o) k
+  unfolding refusal_of
+  first_of = first_some
+
+  -- no line has the number 0
+  number_some : FirstIs (refusals s o) k → number_of k ≡ 0 → ⊥
+  number_some first e = some_number k e
 
   gives : FirstIs (refusals s o) k → why_of s o ≡ Err k
   unfolding why_of refusal_of
   gives first = rw (first_is first)
 
   pub refused_exactly : why_of s o ≡ Err k ↔ FirstIs (refusals s o) k
-  refused_exactly = (refused_by, gives)
+  refused_exactly = ((λ e. first_of (is_refused_lem e)), gives)

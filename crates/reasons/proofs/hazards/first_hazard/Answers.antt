@@ -1,13 +1,12 @@
 -- `first_hazard` meets its contract: no position before the loops' one holds the object as its hazard.
-use Prim.Native.Nat.{◌*◌, ◌≤◌}
+use Prim.Native.Nat.{◌*◌}
 use native.Mathlib.Omega.{arith}
 use lib.ListN.{get_or}
 use lib.Dec.{eqb}
 use borrow.Author.Tests.{eq-eqb}
 use Rattle.entries.specs.Entries.{empty_slot}
 use Rattle.entries.specs.Facts.{position_less}
-use native.Mathlib.Nat.{mul-le-mul_right}
-use Rattle.reasons.proofs.Found.{found_at, found_nowhere}
+use Rattle.reasons.proofs.Found.{at_end_lem, found_at, found_nowhere}
 use Rattle.reasons.proofs.hazards.first_hazard.Goals as goal
 
 pub returns-then-slots-from : goal.returns-then-slots-from
@@ -27,7 +26,5 @@ pub returns-after-loop-thread : goal.returns-after-loop-thread
 returns-after-loop-thread c =
     let a = c.args in
     let l = c.loop-thread in
-    -- after the last thread no position is left
-    let all : a.sizes.threads * a.sizes.slots ≤ l.thread * a.sizes.slots = mul-le-mul_right a.sizes.slots c.loop-thread-test.false in
     found_nowhere (a.sizes.threads * a.sizes.slots) (λ j. eqb (get_or a.slots j empty_slot).hazard a.object)
-    (λ j less. l.invariant j (omega arith))
+    (λ j less. l.invariant j (at_end_lem a.sizes.threads a.sizes.slots l.thread j c.loop-thread-test.false less))
