@@ -10,14 +10,14 @@ fn near(seed: usize, k: usize, size: u8) -> u8 {
     if dice::pick(seed, k ^ 64, 8) == 0 {
         return size;
     }
-    plain::byte(dice::pick(seed, k, plain::wide(size)))
+    plain::byte(dice::pick(seed, k, usize::from(size)))
 }
 
 // What carries an object: of the positions, T × H and one past it too.
 fn carrying(seed: usize, z: Sizes, object: u8) -> Phase {
     let slot = near(seed, 11, z.slots);
     let link = near(seed, 12, z.links);
-    let ends = plain::up(plain::up(positions(z.threads, z.slots)));
+    let ends = ((positions(z.threads, z.slots)).saturating_add(1)).saturating_add(1);
     let position = plain::byte(dice::pick(seed, 14, ends));
     match dice::pick(seed, 16, 4) {
         0 => Phase::Look { object, position },
@@ -61,7 +61,7 @@ fn index(seed: usize, k: usize, size: usize, most: usize) -> usize {
 
 // T × H, where H is at most 4.
 fn positions(threads: u8, slots: u8) -> usize {
-    let t = plain::wide(threads) % 256;
+    let t = usize::from(threads) % 256;
     match slots {
         0 => 0,
         1 => t,
@@ -73,9 +73,9 @@ fn positions(threads: u8, slots: u8) -> usize {
 
 fn change_link(seed: usize, mut s: State) -> State {
     let z = s.sizes;
-    let l = index(seed, 1, plain::wide(z.links), 16);
+    let l = index(seed, 1, usize::from(z.links), 16);
     let object = dice::pick(seed, 2, 242);
-    let near = dice::pick(seed, 3, plain::wide(z.objects));
+    let near = dice::pick(seed, 3, usize::from(z.objects));
     if l < 16 {
         s.links[l] = plain::byte(if dice::pick(seed, 4, 4) == 0 {
             object
@@ -88,8 +88,8 @@ fn change_link(seed: usize, mut s: State) -> State {
 
 fn change_thread(seed: usize, mut s: State) -> State {
     let z = s.sizes;
-    let t = index(seed, 1, plain::wide(z.threads), 8);
-    let n = plain::wide(z.objects);
+    let t = index(seed, 1, usize::from(z.threads), 8);
+    let n = usize::from(z.objects);
     if t < 8 {
         let old = s.threads[t];
         let was = old.phase;
@@ -112,7 +112,7 @@ fn change_thread(seed: usize, mut s: State) -> State {
 fn change_slot(seed: usize, mut s: State) -> State {
     let z = s.sizes;
     let p = index(seed, 1, positions(z.threads, z.slots), 32);
-    let n = plain::wide(z.objects);
+    let n = usize::from(z.objects);
     let k = dice::pick(seed, 2, 8);
     if p < 32 {
         let old = s.slots[p];
@@ -139,7 +139,7 @@ fn change_slot(seed: usize, mut s: State) -> State {
 
 fn change_object(seed: usize, mut s: State) -> State {
     let z = s.sizes;
-    let i = index(seed, 1, plain::wide(z.objects), 240);
+    let i = index(seed, 1, usize::from(z.objects), 240);
     if i < 240 {
         if dice::pick(seed, 2, 3) == 0 {
             let object = plain::byte(i + 1);
@@ -160,8 +160,8 @@ fn change_object(seed: usize, mut s: State) -> State {
 // One free object goes to an empty link: a sound state gives a sound one.
 fn move_free(seed: usize, mut s: State) -> State {
     let z = s.sizes;
-    let i = dice::pick(seed, 1, plain::wide(z.objects));
-    let l = dice::pick(seed, 2, plain::wide(z.links));
+    let i = dice::pick(seed, 1, usize::from(z.objects));
+    let l = dice::pick(seed, 2, usize::from(z.links));
     if i < 240 && l < 16 {
         let object = plain::byte(i + 1);
         let pool = s.pool;
@@ -178,15 +178,15 @@ fn move_free(seed: usize, mut s: State) -> State {
 // out of range.
 fn carry_free(seed: usize, mut s: State) -> State {
     let z = s.sizes;
-    let i = dice::pick(seed, 1, plain::wide(z.objects));
-    let t = dice::pick(seed, 2, plain::wide(z.threads));
+    let i = dice::pick(seed, 1, usize::from(z.objects));
+    let t = dice::pick(seed, 2, usize::from(z.threads));
     if i < 240 {
         if t < 8 {
             let object = plain::byte(i + 1);
             let pool = s.pool;
             let old = s.threads[t];
             let was = old.phase;
-            if pool.is_free(object) && entries::is_idle(was) {
+            if pool.is_free(object) && was.is_idle() {
                 let taken = pool.take_out(object);
                 s.pool = taken;
                 s.threads[t] = Thread {
@@ -202,7 +202,7 @@ fn carry_free(seed: usize, mut s: State) -> State {
 // What a link holds goes to a handover that is empty: a sound state gives a sound one.
 fn move_link(seed: usize, mut s: State) -> State {
     let z = s.sizes;
-    let l = dice::pick(seed, 1, plain::wide(z.links));
+    let l = dice::pick(seed, 1, usize::from(z.links));
     let p = dice::pick(seed, 2, positions(z.threads, z.slots));
     if l < 16 {
         if p < 32 {
@@ -277,7 +277,7 @@ fn changed(seed: usize, s: State) -> State {
 // Both checks on a changed state, and then a call and a count.
 pub fn judged(before: Totals, plan: Plan, index: usize, reached: State) -> Totals {
     let s = changed(dice::mix(plan.seed, index ^ 512), reached);
-    let w = twin::of(compare::raw(s));
+    let w = twin::of(&compare::raw(s));
     let order = draw::order(plan, index ^ 256, w);
     let b = compare::called(s, order);
     let seen = before.soundness(b.sound, b.checks).answer(b.said);

@@ -73,8 +73,8 @@ fn drawn(seed: usize, style: usize, t: usize, h: usize, l: usize, n: usize, leng
 
 // Two or three threads with a slot or two each that meet on a link or two, for so long that slots are used again and again.
 fn meets(seed: usize, style: usize) -> Plan {
-    let t = plain::up(some(seed, 1, 2));
-    let n = plain::up(plain::up(some(seed, 4, 3)));
+    let t = (some(seed, 1, 2)).saturating_add(1);
+    let n = ((some(seed, 4, 3)).saturating_add(1)).saturating_add(1);
     sized(seed, style, t, some(seed, 2, 2), some(seed, 3, 2), n, 192)
 }
 
@@ -231,7 +231,7 @@ fn accepted(seed: usize, first: usize, loyal: bool, w: Twin) -> Order {
             return order;
         }
         let wanted = dice::pick(own, 8, 8) == 0 || !dull(order, about.full, w);
-        if wanted && w.refusal(order) == 0 {
+        if wanted && w.accepts(order).is_ok() {
             return order;
         }
     }

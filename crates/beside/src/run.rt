@@ -6,7 +6,7 @@ use compare::Five;
 use machine::{Started, State};
 use plain::{Order, Said, Task};
 use store::Store;
-use twin::{Stepped, Twin};
+use twin::{Refusal, Twin};
 
 // The five places sum to N; those that wait are as many as the history says, and at most T × (H + 1).
 fn sums(f: Five, w: Twin, waiting: usize) -> bool {
@@ -37,20 +37,19 @@ fn sums(f: Five, w: Twin, waiting: usize) -> bool {
 }
 
 fn counted(totals: Totals, s: State, w: Twin, waiting: usize) -> Totals {
-    let theirs = compare::first_count(s);
-    let ours = compare::twin_count(w);
-    totals.count(theirs.same(ours) && sums(theirs, w, waiting))
+    let theirs = Five::of_first(s);
+    let ours = Five::of_twin(&w);
+    totals.count(theirs == ours && sums(theirs, w, waiting))
 }
 
-// A call and what its thread was in the middle of, the answers to it, and whether the store was told of it and gave the same.
+// A call and what its thread was in the middle of, the answers to it, and, where it is listed, whether the store gave the same.
 #[derive(Clone, Copy)]
 struct Heard {
     order: Order,
     before: Task,
     theirs: Said,
     ours: Said,
-    listed: bool,
-    agrees: bool,
+    agrees: Option<bool>,
 }
 
 fn counted_step(totals: Totals, heard: Heard) -> Totals {
@@ -68,7 +67,7 @@ fn answered(heard: Heard, w: Twin) -> bool {
     let o = heard.order;
     let theirs = heard.theirs;
     let after = w.task_of(o.thread);
-    theirs.same(heard.ours) && compare::fits(theirs, heard.before, after, o.thread, w.slots)
+    theirs == heard.ours && compare::fits(theirs, heard.before, after, o.thread, w.slots)
 }
 
 // Every comparison after a call.
@@ -76,9 +75,9 @@ fn compared(before: Totals, heard: Heard, s: State, w: Twin, store: Store) -> To
     let steps = counted_step(before, heard);
     let seen = steps.answer(heard.theirs).call(answered(heard, w));
     let raw = compare::raw(s);
-    let states = seen.state(raw.same(w.raw()));
-    let listed = states.listing(heard.listed, heard.agrees);
-    let held = listed.holding(store.holds(raw));
+    let states = seen.state(raw == w.raw());
+    let listed = states.listing(heard.agrees);
+    let held = listed.holding(store.holds(&raw));
     counted(held, s, w, store.waiting)
 }
 
@@ -91,17 +90,23 @@ pub fn machine_start(plan: Plan) -> Started {
     )
 }
 
-pub fn twin_start(plan: Plan) -> Stepped {
+pub fn twin_start(plan: Plan) -> twin::Started {
     twin::start(plan.threads, plan.slots, plan.links, plan.objects)
 }
 
-fn compared_start(before: Totals, verdict: usize, mine: Said, s: State, w: Twin) -> Totals {
+fn compared_start(
+    before: Totals,
+    theirs: Option<usize>,
+    ours: Option<Refusal>,
+    s: State,
+    w: Twin,
+) -> Totals {
     let seen = before
-        .see(verdict)
-        .start(verdict == 0)
-        .call(verdict == mine.number);
+        .see(theirs.unwrap_or(0))
+        .start(theirs.is_none())
+        .call(theirs == ours.map(|refusal| refusal.number()));
     let raw = compare::raw(s);
-    seen.state(raw.same(w.raw()))
+    seen.state(raw == w.raw())
 }
 
 // One schedule. Now and then a changed state is judged too.
@@ -112,8 +117,8 @@ pub fn schedule(number: usize, totals: Totals) -> Totals {
     let ours = twin_start(plan);
     let mut state = began.state;
     let mut w = ours.twin;
-    let mut store = store::bare(plan.slots);
-    let mut sum = compared_start(totals, compare::verdict(verdict), ours.said, state, w);
+    let mut store = Store::bare(plan.slots);
+    let mut sum = compared_start(totals, compare::refused(verdict), ours.refused, state, w);
     for i in 0..256 {
         if i < plan.length {
             let order = draw::order(plan, i, w);
@@ -123,18 +128,16 @@ pub fn schedule(number: usize, totals: Totals) -> Totals {
             let theirs = compare::said(answer);
             let mine = w.step(order);
             let ours = mine.said;
-            let told = store.hear(order, theirs);
+            let agrees = store.hear(order, theirs);
             let heard = Heard {
                 order,
                 before,
                 theirs,
                 ours,
-                listed: told.listed,
-                agrees: told.agrees,
+                agrees,
             };
             state = out.state;
             w = mine.twin;
-            store = told.store;
             sum = compared(sum, heard, state, w, store);
             if i % 24 == 23 {
                 sum = change::judged(sum, plan, i, state);

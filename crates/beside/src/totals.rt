@@ -63,51 +63,53 @@ impl Totals {
 
     pub fn agree(mut self, same: bool) -> Totals {
         if !same {
-            self.differences = plain::up(self.differences);
+            self.differences = self.differences.saturating_add(1);
         }
         self
     }
 
     pub fn start(mut self, good: bool) -> Totals {
         if good {
-            self.started = plain::up(self.started);
+            self.started = self.started.saturating_add(1);
         }
         self
     }
 
     pub fn call(mut self, same: bool) -> Totals {
-        self.calls = plain::up(self.calls);
+        self.calls = self.calls.saturating_add(1);
         self.agree(same)
     }
 
     pub fn count(mut self, same: bool) -> Totals {
-        self.counts = plain::up(self.counts);
+        self.counts = self.counts.saturating_add(1);
         self.agree(same)
     }
 
     pub fn state(mut self, same: bool) -> Totals {
-        self.states = plain::up(self.states);
+        self.states = self.states.saturating_add(1);
         self.agree(same)
     }
 
-    pub fn listing(mut self, listed: bool, same: bool) -> Totals {
-        if listed {
-            self.listed = plain::up(self.listed);
-        }
+    // `agrees` is None where the call is not listed.
+    pub fn listing(mut self, agrees: Option<bool>) -> Totals {
+        let Some(same) = agrees else {
+            return self;
+        };
+        self.listed = self.listed.saturating_add(1);
         self.agree(same)
     }
 
     pub fn holding(mut self, same: bool) -> Totals {
-        self.holdings = plain::up(self.holdings);
+        self.holdings = self.holdings.saturating_add(1);
         self.agree(same)
     }
 
     pub fn soundness(mut self, yes: bool, same: bool) -> Totals {
-        self.changed = plain::up(self.changed);
+        self.changed = self.changed.saturating_add(1);
         if yes {
-            self.sound = plain::up(self.sound);
+            self.sound = self.sound.saturating_add(1);
         } else {
-            self.unsound = plain::up(self.unsound);
+            self.unsound = self.unsound.saturating_add(1);
         }
         self.agree(same)
     }

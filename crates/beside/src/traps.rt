@@ -4,7 +4,8 @@ use crate::draw::Plan;
 use crate::{draw, run, show};
 use plain::Said;
 use std::io;
-use twin::Twin;
+use store::Store;
+use twin::{Trap, Twin};
 
 // A schedule and a call of it, both from 0; `there` is false where no schedule shows a difference.
 #[derive(Clone, Copy)]
@@ -14,7 +15,7 @@ pub struct Shown {
     pub call: usize,
 }
 
-fn fresh(plan: Plan, trap: usize) -> Twin {
+fn fresh(plan: Plan, trap: Option<Trap>) -> Twin {
     let ours = run::twin_start(plan);
     let twin = ours.twin;
     twin.in_trap(trap)
@@ -22,11 +23,11 @@ fn fresh(plan: Plan, trap: usize) -> Twin {
 
 // The first call of a schedule that the first machine and a twin in a trap answer differently, or 256. The calls are drawn
 // for a twin in no trap.
-fn differs_at(plan: Plan, trap: usize) -> usize {
+fn differs_at(plan: Plan, trap: Trap) -> usize {
     let began = run::machine_start(plan);
     let mut state = began.state;
-    let mut drawer = fresh(plan, 0);
-    let mut trapped = fresh(plan, trap);
+    let mut drawer = fresh(plan, None);
+    let mut trapped = fresh(plan, Some(trap));
     for i in 0..256 {
         if i < plan.length {
             let order = draw::order(plan, i, drawer);
@@ -38,7 +39,7 @@ fn differs_at(plan: Plan, trap: usize) -> usize {
             drawer = drawn.twin;
             trapped = ours.twin;
             let theirs = compare::said(answer);
-            if !theirs.same(ours.said) {
+            if theirs != ours.said {
                 return i;
             }
         }
@@ -46,7 +47,7 @@ fn differs_at(plan: Plan, trap: usize) -> usize {
     256
 }
 
-pub fn first_difference(trap: usize) -> Shown {
+pub fn first_difference(trap: Trap) -> Shown {
     for n in 0..draw::SCHEDULES {
         let call = differs_at(draw::planned(n), trap);
         if call < 256 {
@@ -65,17 +66,16 @@ pub fn first_difference(trap: usize) -> Shown {
 }
 
 // The first call of a schedule, drawn for a twin in a trap, after which it does not agree with the plain store, or 256.
-fn loses_at(plan: Plan, trap: usize) -> usize {
-    let mut trapped = fresh(plan, trap);
-    let mut store = store::bare(plan.slots);
+fn loses_at(plan: Plan, trap: Trap) -> usize {
+    let mut trapped = fresh(plan, Some(trap));
+    let mut store = Store::bare(plan.slots);
     for i in 0..256 {
         if i < plan.length {
             let order = draw::order(plan, i, trapped);
             let ours = trapped.step(order);
-            let told = store.hear(order, ours.said);
+            let agrees = store.hear(order, ours.said);
             trapped = ours.twin;
-            store = told.store;
-            if !told.agrees || !store.holds(trapped.raw()) {
+            if agrees == Some(false) || !store.holds(&trapped.raw()) {
                 return i;
             }
         }
@@ -83,7 +83,7 @@ fn loses_at(plan: Plan, trap: usize) -> usize {
     256
 }
 
-pub fn first_loss(trap: usize) -> Shown {
+pub fn first_loss(trap: Trap) -> Shown {
     for n in 0..draw::SCHEDULES {
         let call = loses_at(draw::meeting(n), trap);
         if call < 256 {
@@ -125,9 +125,9 @@ fn calls(rt: &impl Print, plan: Plan, w: Twin, last: usize) -> io::Result<()> {
 }
 
 // The last answer of the twin that draws, and of one in a trap.
-fn answers(rt: &impl Print, plan: Plan, w: Twin, last: usize, trap: usize) -> io::Result<()> {
+fn answers(rt: &impl Print, plan: Plan, w: Twin, last: usize, trap: Trap) -> io::Result<()> {
     let mut drawer = w;
-    let mut trapped = w.in_trap(trap);
+    let mut trapped = w.in_trap(Some(trap));
     for i in 0..256 {
         if i <= last {
             let order = draw::order(plan, i, drawer);
@@ -147,7 +147,7 @@ fn answers(rt: &impl Print, plan: Plan, w: Twin, last: usize, trap: usize) -> io
     Ok(())
 }
 
-fn found(rt: &impl Print, plan: Plan, s: Shown, drawing: usize) -> io::Result<()> {
+fn found(rt: &impl Print, plan: Plan, s: Shown, drawing: Option<Trap>) -> io::Result<()> {
     compare::number(rt, s.schedule)?;
     compare::text(rt, b", sizes ")?;
     show::sizes(rt, plan)?;
@@ -155,45 +155,45 @@ fn found(rt: &impl Print, plan: Plan, s: Shown, drawing: usize) -> io::Result<()
     calls(rt, plan, fresh(plan, drawing), s.call)
 }
 
-fn differ(rt: &impl Print, trap: usize) -> io::Result<()> {
+fn differ(rt: &impl Print, trap: Trap) -> io::Result<()> {
     let s = first_difference(trap);
     if !s.there {
         return compare::text(rt, b"  the machines answer the same\n");
     }
     let plan = draw::planned(s.schedule);
     compare::text(rt, b"  the machines differ at the end of schedule ")?;
-    found(rt, plan, s, 0)?;
-    answers(rt, plan, fresh(plan, 0), s.call, trap)
+    found(rt, plan, s, None)?;
+    answers(rt, plan, fresh(plan, None), s.call, trap)
 }
 
-fn lose(rt: &impl Print, trap: usize) -> io::Result<()> {
+fn lose(rt: &impl Print, trap: Trap) -> io::Result<()> {
     let s = first_loss(trap);
     if !s.there {
         return compare::text(rt, b"  the plain store is kept to\n");
     }
     compare::text(rt, b"  the plain store is left at the end of meeting ")?;
-    found(rt, draw::meeting(s.schedule), s, trap)
+    found(rt, draw::meeting(s.schedule), s, Some(trap))
 }
 
 // Nothing is lost by an early drain or sweep, which only leaves an object behind, nor by a protect that is not ended. So those
 // three traps are not held to the store.
 pub fn all(rt: &impl Print) -> io::Result<()> {
     compare::text(rt, b"trap: moving on after a swap\n")?;
-    differ(rt, 1)?;
-    lose(rt, 1)?;
+    differ(rt, Trap::MoveOn)?;
+    lose(rt, Trap::MoveOn)?;
     compare::text(rt, b"trap: marking at publication\n")?;
-    differ(rt, 2)?;
-    lose(rt, 2)?;
+    differ(rt, Trap::MarkEarly)?;
+    lose(rt, Trap::MarkEarly)?;
     compare::text(rt, b"trap: draining before the hazard is zeroed\n")?;
-    differ(rt, 3)?;
+    differ(rt, Trap::DrainEarly)?;
     compare::text(rt, b"trap: freeing at the last match of a scan\n")?;
-    differ(rt, 4)?;
-    lose(rt, 4)?;
+    differ(rt, Trap::FreeAtLast)?;
+    lose(rt, Trap::FreeAtLast)?;
     compare::text(rt, b"trap: scanning only other threads' slots\n")?;
-    differ(rt, 5)?;
-    lose(rt, 5)?;
+    differ(rt, Trap::OthersOnly)?;
+    lose(rt, Trap::OthersOnly)?;
     compare::text(rt, b"trap: idle after a sweep's scan\n")?;
-    differ(rt, 6)?;
+    differ(rt, Trap::IdleAfter)?;
     compare::text(rt, b"trap: sweeping before the hazard is stored\n")?;
-    differ(rt, 7)
+    differ(rt, Trap::SweepEarly)
 }

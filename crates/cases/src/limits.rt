@@ -1,6 +1,7 @@
 // Starting at both sides of both limits of each size, the three others at their limits.
 use crate::seen::{Seen, Tried};
 use crate::{seen, show, stage};
+use plain::Raw;
 use std::io;
 
 // "T threads 1 to 8, H hazard slots per thread 1 to 4, L links 1 to 16, N objects 1 to 240".
@@ -19,7 +20,7 @@ pub fn limit(size: usize, side: usize) -> usize {
         0 => 0,
         1 => 1,
         2 => most(size),
-        _ => plain::up(most(size)),
+        _ => most(size).saturating_add(1),
     }
 }
 
@@ -50,7 +51,8 @@ impl Sides {
         let h = self.of(1);
         let l = self.of(2);
         let n = self.of(3);
-        let due = stage::either((self.side == 0) | (self.side == 3), 20, 0);
+        let bad = (self.side == 0) | (self.side == 3);
+        let due = if bad { Some(20) } else { None };
         let theirs = machine::start(
             plain::byte(t),
             plain::byte(h),
@@ -59,14 +61,11 @@ impl Sides {
         );
         let verdict = theirs.verdict;
         let ours = twin::start(t, h, l, n);
-        let said = ours.said;
+        let refused = ours.refused.map(|refusal| refusal.number());
         let twin = ours.twin;
         let raw = compare::raw(theirs.state);
-        let blank = raw.same(plain::empty());
-        (compare::verdict(verdict) == due)
-            & (said.number == due)
-            & raw.same(twin.raw())
-            & (blank == (due == 20))
+        let blank = raw == Raw::EMPTY;
+        (compare::refused(verdict) == due) & (refused == due) & (raw == twin.raw()) & (blank == bad)
     }
 }
 

@@ -62,7 +62,7 @@ fn put(s: State, place: usize, at: usize, object: usize) -> State {
 // "all numbers above are in range": what is in a link, a hand, a handover, a hazard.
 fn of_objects(z: Setting, k: usize, bad: bool) -> State {
     let s = stage::fresh(z);
-    let object = stage::either(bad, plain::up(z.objects), z.objects);
+    let object = stage::either(bad, z.objects.saturating_add(1), z.objects);
     if k == 3 {
         return stage::slot(s, 0, object, false, 0);
     }
@@ -103,9 +103,9 @@ fn of_phases(z: Setting, k: usize, bad: bool) -> State {
     let slot = stage::either(field == 1, z.slots, stage::last(z.slots));
     let link = stage::either(field == 2, z.links, stage::last(z.links));
     let known = stage::either(field == 4, 0, z.objects);
-    let object = stage::either(field == 3, plain::up(z.objects), known);
+    let object = stage::either(field == 3, z.objects.saturating_add(1), known);
     let end = stage::either(looks, z.positions, stage::last(z.positions));
-    let position = stage::either(field == 5, plain::up(end), end);
+    let position = stage::either(field == 5, end.saturating_add(1), end);
     let fresh = stage::fresh(z);
     let s = if stage::carries(doing) {
         stage::taken(fresh, object)
@@ -120,7 +120,7 @@ fn of_phases(z: Setting, k: usize, bad: bool) -> State {
 // beyond. No object is there, so that none is in two places. A mark there is on a hazard that has to be 0 too.
 fn of_beyond(z: Setting, k: usize, bad: bool) -> State {
     let s = stage::fresh(z);
-    let above = plain::up(z.objects);
+    let above = z.objects.saturating_add(1);
     if !bad {
         return s;
     }

@@ -60,7 +60,7 @@ impl Seen {
                 return self;
             }
         }
-        self.differences = plain::up(self.differences);
+        self.differences = self.differences.saturating_add(1);
         self
     }
 }

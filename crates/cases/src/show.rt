@@ -32,9 +32,9 @@ pub fn table(
             if 0 < width {
                 let row = key / width;
                 if key % width == 0 {
-                    name(rt, plain::wide(names[row % 12]))?;
+                    name(rt, usize::from(names[row % 12]))?;
                 }
-                cell(rt, plain::wide32(s.tried[key]), plain::wide32(s.seen[key]))?;
+                cell(rt, s.tried[key] as usize, s.seen[key] as usize)?;
             }
         }
     }

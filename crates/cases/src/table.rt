@@ -39,7 +39,7 @@ fn protected(r: Raw, thread: usize, slot: usize) -> bool {
 
 pub fn looked_at(s: State, o: Order) -> Facts {
     let r = compare::raw(s);
-    let w = twin::of(r);
+    let w = twin::of(&r);
     let counts = w.counts();
     Facts {
         sound: r.sound(),
@@ -49,7 +49,7 @@ pub fn looked_at(s: State, o: Order) -> Facts {
         busy: w.busy(o.thread),
         full: w.holds(o.thread),
         protected: protected(r, o.thread, o.slot),
-        free: counts[1] != 0,
+        free: counts.free != 0,
     }
 }
 

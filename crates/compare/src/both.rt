@@ -1,5 +1,6 @@
 // One call on one state, sound or not, by both machines.
-use crate::{five, numbers, work};
+use crate::five::Five;
+use crate::{numbers, work};
 use machine::State;
 use plain::{Order, Said};
 
@@ -17,41 +18,44 @@ pub struct Both {
 
 impl Both {
     pub fn agree(self) -> bool {
-        self.checks & self.answers & self.states & self.counts
+        self.checks && self.answers && self.states && self.counts
     }
 }
 
 // On a sound state as the twin has them; on another 19, the same state, and five zeros.
 pub fn called(s: State, order: Order) -> Both {
     let raw = numbers::raw(s);
-    let yes = raw.sound();
-    let checks = s.is_sound() == yes;
+    let sound = raw.sound();
+    let checks = s.is_sound() == sound;
     let out = s.step(numbers::call(order));
-    let answer = out.answer;
     let next = numbers::raw(out.state);
-    let said = numbers::said(answer);
-    let five = five::first_count(s);
-    if yes {
-        let w = twin::of(raw);
-        let ours = w.step(order);
-        let after = ours.twin;
-        let t = order.thread;
-        let fits = work::fits(said, w.task_of(t), after.task_of(t), t, raw.slots);
+    let said = numbers::said(out.answer);
+    let five = Five::of_first(s);
+    if !sound {
+        let unsound = Said {
+            number: 19,
+            a: 0,
+            b: 0,
+        };
         return Both {
-            sound: true,
+            sound,
             said,
             checks,
-            answers: said.same(ours.said) & fits,
-            states: next.same(after.raw()),
-            counts: five.same(five::twin_count(w)),
+            answers: said == unsound,
+            states: next == raw,
+            counts: five == Five::REFUSED,
         };
     }
+    let w = twin::of(&raw);
+    let ours = w.step(order);
+    let t = order.thread;
+    let fits = work::fits(said, w.task_of(t), ours.twin.task_of(t), t, raw.slots);
     Both {
-        sound: false,
+        sound,
         said,
         checks,
-        answers: (said.number == 19) & (said.a == 0) & (said.b == 0),
-        states: next.same(raw),
-        counts: five.same(five::none_counted()),
+        answers: said == ours.said && fits,
+        states: next == ours.twin.raw(),
+        counts: five == Five::of_twin(&w),
     }
 }

@@ -8,7 +8,7 @@ mod print;
 mod work;
 
 pub use both::{Both, called};
-pub use five::{Five, first_count, none_counted, twin_count};
-pub use numbers::{call, raw, said, verdict};
+pub use five::Five;
+pub use numbers::{call, raw, refused, said};
 pub use print::{number, text};
 pub use work::fits;

@@ -4,10 +4,7 @@
 mod phases;
 mod ranges;
 
-pub use phases::{carried, is_idle, looking, returns_to, scan_position, swapping};
-pub use ranges::{in_range, positions, sizes_good, within};
-
-#[derive(Clone, Copy)]
+#[derive(Clone, Copy, Debug, Default, PartialEq, Eq)]
 pub struct Sizes {
     pub threads: u8,
     pub slots: u8,
@@ -17,8 +14,9 @@ pub struct Sizes {
 
 // What a thread is in the middle of. After a publication it sweeps its slot's handover, and a scan of what stood there remembers the slot
 // and the link of the protect that it returns to.
-#[derive(Clone, Copy)]
+#[derive(Clone, Copy, Debug, Default, PartialEq, Eq)]
 pub enum Phase {
+    #[default]
     Idle,
     Loaded {
         slot: u8,
@@ -58,13 +56,13 @@ pub enum Phase {
     },
 }
 
-#[derive(Clone, Copy)]
+#[derive(Clone, Copy, Debug, Default, PartialEq, Eq)]
 pub struct Thread {
     pub hand: u8,
     pub phase: Phase,
 }
 
-#[derive(Clone, Copy)]
+#[derive(Clone, Copy, Debug, Default, PartialEq, Eq)]
 pub struct Slot {
     pub hazard: u8,
     pub mark: bool,

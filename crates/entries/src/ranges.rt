@@ -1,60 +1,40 @@
 // The sizes: whether they are in range, and how many positions they make.
-ghost use Rattle.std.specs.Prelude.{◌≡◌};
-ghost use Rattle.entries.specs.Sizes.{within, in_range, all_zero, positions};
+ghost use Rattle.std.specs.Prelude.{◌≡◌, ◌+◌, ◌*◌, ◌<◌};
+ghost use Rattle.entries.specs.Sizes.{in_range, positions};
 ghost use Rattle.entries.specs.Entries.{sizes_good};
 
 use crate::Sizes;
-use basics::wide;
 
-// Low to high, both included.
-pub fn within(low: u8, high: u8, n: u8) -> bool
-    ensures { result ≡ within low high n }
-{
-    low <= n && n <= high
-}
+impl Sizes {
+    #[tactic(auto, unfolding(crate::specs::Sizes::in_range))]
+    pub fn in_range(self) -> bool
+        ensures { result ≡ in_range self }
+    {
+        (1..=8).contains(&self.threads)
+            && (1..=4).contains(&self.slots)
+            && (1..=16).contains(&self.links)
+            && (1..=240).contains(&self.objects)
+    }
 
-pub fn in_range(z: Sizes) -> bool
-    ensures { result ≡ in_range z }
-{
-    if !within(1, 8, z.threads) {
-        return false;
+    #[tactic(auto, unfolding(crate::specs::Entries::sizes_good, crate::specs::Sizes::all_zero))]
+    pub fn are_good(self) -> bool
+        ensures { result ≡ sizes_good self }
+    {
+        self.in_range() || self == Sizes::default()
     }
-    if !within(1, 4, z.slots) {
-        return false;
-    }
-    if !within(1, 16, z.links) {
-        return false;
-    }
-    within(1, 240, z.objects)
-}
 
-fn blank_sizes(z: Sizes) -> bool
-    ensures { result ≡ all_zero z }
-{
-    if z.threads != 0 {
-        return false;
+    // How many positions there are, for any sizes.
+    pub fn positions(self) -> usize
+        ensures { result ≡ positions self }
+    {
+        usize::from(self.threads) * usize::from(self.slots)
     }
-    if z.slots != 0 {
-        return false;
-    }
-    if z.links != 0 {
-        return false;
-    }
-    z.objects == 0
-}
 
-pub fn sizes_good(z: Sizes) -> bool
-    ensures { result ≡ sizes_good z }
-{
-    if in_range(z) {
-        return true;
+    // "A slot's position is thread × H + slot"
+    pub fn position(self, thread: u8, slot: u8) -> u8
+        requires { thread * self.slots + slot < 32 }
+        ensures { result ≡ thread * self.slots + slot }
+    {
+        thread * self.slots + slot
     }
-    blank_sizes(z)
-}
-
-// How many positions there are, for any sizes.
-pub fn positions(z: Sizes) -> usize
-    ensures { result ≡ positions z }
-{
-    wide(z.threads) * wide(z.slots)
 }

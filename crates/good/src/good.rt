@@ -5,7 +5,7 @@ ghost use Rattle.entries.specs.Entries.{idle_thread, empty_slot, link_good, thre
 
 use crate::ranges::phase_in_range;
 use basics::{least, wide};
-use entries::{Sizes, Slot, Thread, is_idle, positions};
+use entries::{Sizes, Slot, Thread};
 
 fn link_good(z: Sizes, i: usize, object: u8) -> bool
     ensures { result ≡ link_good z i object }
@@ -27,8 +27,7 @@ fn thread_in_range(z: Sizes, thread: Thread) -> bool
 fn thread_empty(thread: Thread) -> bool
     ensures { result ≡ thread_empty thread }
 {
-    let phase = thread.phase;
-    thread.hand == 0 && is_idle(phase)
+    thread.hand == 0 && thread.phase.is_idle()
 }
 
 // "a protected mark stands only on a hazard that is not 0"
@@ -100,7 +99,7 @@ pub fn threads_good(z: Sizes, threads: [Thread; 8]) -> bool
 pub fn slots_good(z: Sizes, slots: [Slot; 32]) -> bool
     ensures { result ≡ all_under 32 (λ p. slot_good z p (get_or slots p empty_slot)) }
 {
-    let end = least(positions(z), 32);
+    let end = least(z.positions(), 32);
     let mut p = 0;
     while p < end {
         let slot = slots[p];

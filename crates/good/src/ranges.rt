@@ -3,8 +3,7 @@ ghost use Rattle.std.specs.Prelude.{◌≡◌, ◌&&◌, leb, ltb};
 ghost use Rattle.entries.specs.Sizes.{within, positions};
 ghost use Rattle.entries.specs.Phases.{phase_in_range};
 
-use basics::wide;
-use entries::{Phase, Sizes, positions, within};
+use entries::{Phase, Sizes};
 
 fn place_in_range(z: Sizes, slot: u8, link: u8) -> bool
     ensures { result ≡ ltb slot z.slots && ltb link z.links }
@@ -12,45 +11,31 @@ fn place_in_range(z: Sizes, slot: u8, link: u8) -> bool
     slot < z.slots && link < z.links
 }
 
-fn loaded_in_range(z: Sizes, slot: u8, link: u8, object: u8) -> bool
-    ensures { result ≡ ltb slot z.slots && ltb link z.links && leb object z.objects }
-{
-    place_in_range(z, slot, link) && object <= z.objects
-}
-
 fn look_in_range(z: Sizes, object: u8, position: u8) -> bool
     ensures { result ≡ within 1 z.objects object && leb position (positions z) }
 {
-    within(1, z.objects, object) && wide(position) <= positions(z)
+    (1..=z.objects).contains(&object) && usize::from(position) <= z.positions()
 }
 
 fn swap_in_range(z: Sizes, object: u8, position: u8) -> bool
     ensures { result ≡ within 1 z.objects object && ltb position (positions z) }
 {
-    within(1, z.objects, object) && wide(position) < positions(z)
+    (1..=z.objects).contains(&object) && usize::from(position) < z.positions()
 }
 
 // A scan that returns to a protect: its own numbers, then the slot and link that it remembers.
-fn sweep_look_in_range(z: Sizes, object: u8, position: u8, slot: u8, link: u8) -> bool
-    ensures { result ≡ (within 1 z.objects object && leb position (positions z) && (ltb slot z.slots && ltb link z.links)) }
-{
-    look_in_range(z, object, position) && place_in_range(z, slot, link)
-}
-
-fn sweep_swap_in_range(z: Sizes, object: u8, position: u8, slot: u8, link: u8) -> bool
-    ensures { result ≡ (within 1 z.objects object && ltb position (positions z) && (ltb slot z.slots && ltb link z.links)) }
-{
-    swap_in_range(z, object, position) && place_in_range(z, slot, link)
-}
-
+#[tactic(auto, unfolding(entries::specs::Phases::phase_in_range))]
 pub(crate) fn phase_in_range(z: Sizes, phase: Phase) -> bool
     ensures { result ≡ phase_in_range z phase }
 {
     match phase {
         Phase::Idle => true,
-        Phase::Loaded { slot, link, object } => loaded_in_range(z, slot, link, object),
-        Phase::Sweeping { slot, link } => place_in_range(z, slot, link),
-        Phase::Published { slot, link } => place_in_range(z, slot, link),
+        Phase::Loaded { slot, link, object } => {
+            place_in_range(z, slot, link) && object <= z.objects
+        }
+        Phase::Sweeping { slot, link } | Phase::Published { slot, link } => {
+            place_in_range(z, slot, link)
+        }
         Phase::Draining { slot } => slot < z.slots,
         Phase::Look { object, position } => look_in_range(z, object, position),
         Phase::Swap { object, position } => swap_in_range(z, object, position),
@@ -59,12 +44,12 @@ pub(crate) fn phase_in_range(z: Sizes, phase: Phase) -> bool
             position,
             slot,
             link,
-        } => sweep_look_in_range(z, object, position, slot, link),
+        } => look_in_range(z, object, position) && place_in_range(z, slot, link),
         Phase::SweepSwap {
             object,
             position,
             slot,
             link,
-        } => sweep_swap_in_range(z, object, position, slot, link),
+        } => swap_in_range(z, object, position) && place_in_range(z, slot, link),
     }
 }

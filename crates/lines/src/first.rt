@@ -1,30 +1,26 @@
 // The run from its first record on.
-ghost use Rattle.std.specs.Prelude.{◌≤◌, length};
+ghost use Rattle.std.specs.Prelude.{◌≡◌};
 ghost use Rattle.lines.specs.Lent.{room_for_all};
 ghost use Rattle.lines.specs.Run.{text_of};
-ghost use Rattle.text.specs.Written.{Appended};
+ghost use Rattle.text.specs.Paged.{HasRoom, Wrote};
 
 use crate::steps::put_steps;
 use crate::told::{put_sizes, put_stop};
-use machine::Verdict;
 use records::reading::rest;
 use schedule::opening::open;
+use text::page::Page;
 
-// The text of an input at the front of a buffer that has room for every run.
-pub(crate) fn put_text(input: &[u8], out: &mut [u8]) -> usize
-    requires { room_for_all ≤ length out.old }
-    ensures { Appended out.old 0 (text_of input.now) out.new result }
+// The text of an input, on a page that has room for every run.
+pub(crate) fn put_text(input: &[u8], page: &mut Page<'_>)
+    requires { (page.old.at ≡ 0) × HasRoom room_for_all page.old }
+    ensures { Wrote page.old (text_of input.now) page.new }
 {
     let opened = open(input);
-    let state = opened.state;
-    let verdict = opened.verdict;
-    match verdict {
-        Verdict::Good => {
-            let sizes = state.sizes;
-            let next = put_sizes(out, 0, sizes);
-            let left = rest(input);
-            put_steps(left, out, next, state)
+    match opened.verdict {
+        Ok(()) => {
+            put_sizes(page, opened.state.sizes);
+            put_steps(rest(input), page, opened.state);
         }
-        Verdict::Refused(number) => put_stop(out, 0, 0, number),
+        Err(stop) => put_stop(page, 0, stop.number()),
     }
 }

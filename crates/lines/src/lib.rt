@@ -9,6 +9,7 @@ ghost use Rattle.std.specs.Prelude.{◌≡◌, ◌≤◌, length};
 ghost use Rattle.lines.specs.Lent.{answer_of, buffer_of};
 
 use first::put_text;
+use text::page::Page;
 
 // 240,080 bytes, room for every run: 6,002 lines of at most 40 bytes.
 pub const ROOM: usize = 6002 * 40;
@@ -26,5 +27,7 @@ pub fn run(input: &[u8], out: &mut [u8]) -> usize
     if out.len() < ROOM {
         return 0;
     }
-    put_text(input, out)
+    let mut page = Page::new(out);
+    put_text(input, &mut page);
+    page.place()
 }

@@ -1,43 +1,38 @@
 // The run after its first line: a line for each step, and the line with which it ends.
-ghost use Rattle.std.specs.Prelude.{◌≤◌, length};
+ghost use Rattle.std.specs.Prelude.{◌+◌, ◌≤◌, length};
 ghost use Rattle.schedule.specs.Asked.{found_of};
 ghost use Rattle.lines.specs.Lent.{room_for_all};
 ghost use Rattle.lines.specs.Line.{line_room, text};
 ghost use Rattle.lines.specs.Run.{lines_found};
-ghost use Rattle.text.specs.Written.{Appended};
+ghost use Rattle.text.specs.Paged.{Wrote};
 
 use crate::told::{put_end, put_step, put_stop};
 use machine::State;
 use records::reading::rest;
-use schedule::Next;
 use schedule::going::next;
+use text::page::Page;
 
 // The lines from a state and the bytes that are left. "It takes each answer apart and prints it as numbers."
-pub(crate) fn put_steps(input: &[u8], out: &mut [u8], at: usize, state: State) -> usize
-    requires { (at ≤ line_room) × (room_for_all ≤ length out.old) }
-    ensures { Appended out.old at (text (lines_found 0 state (found_of input.now))) out.new result }
+pub(crate) fn put_steps(input: &[u8], page: &mut Page<'_>, state: State)
+    requires { (page.old.at ≤ line_room) × (room_for_all ≤ length page.old.out.now) }
+    ensures { Wrote page.old (text (lines_found 0 state (found_of input.now))) page.new }
 {
     let mut left = input;
-    let mut place = at;
     let mut now_at = state;
     let mut steps: u32 = 0;
     loop {
-        let found = next(left, steps);
         // what is no call ends the run: a refusal goes to the stop line, the end of the input to the end line
-        let Next::Call(call) = found else {
-            let Next::Stop(number) = found else {
-                let counted = now_at.count();
-                let places = counted.places;
-                return put_end(out, place, steps, places);
-            };
-            return put_stop(out, place, steps + 1, number);
+        let found = match next(left, steps) {
+            Ok(found) => found,
+            Err(stop) => return put_stop(page, steps + 1, stop.number()),
+        };
+        let Some(call) = found else {
+            return put_end(page, steps, now_at.count().places);
         };
         let done = now_at.step(call);
-        let answer = done.answer;
-        place = put_step(out, place, steps + 1, call, answer);
+        put_step(page, steps + 1, call, done.answer);
         now_at = done.state;
-        let after = rest(left);
-        left = after;
+        left = rest(left);
         steps += 1;
     }
 }

@@ -5,7 +5,7 @@ ghost use Rattle.pool.specs.Pool.{next_of};
 ghost use Rattle.machine.specs.Parts.{position_of, slot_at};
 ghost use Rattle.machine.specs.Calls.{take_of, protect_of, swap_of, read_of, retire_of, clear_of};
 
-use crate::parts::{position, slot_at};
+use crate::parts::slot_at;
 use crate::{Answer, Outcome, State};
 use entries::{Phase, Sizes, Slot, Thread};
 
@@ -17,7 +17,7 @@ fn expected(sizes: Sizes, slots: [Slot; 32], thread: u8, slot: u8) -> u8
     if slot == 255 {
         return 0;
     }
-    let held = slot_at(slots, position(thread, sizes.slots, slot));
+    let held = slot_at(slots, sizes.position(thread, slot));
     held.hazard
 }
 
@@ -28,7 +28,9 @@ impl State {
         ensures { result ≡ take_of self thread tag }
     {
         let pool = self.pool;
-        let object = pool.next();
+        let Some(object) = pool.next() else {
+            unreachable!()
+        };
         let taken = pool.take_out(object);
         let t = thread as usize;
         let me = self.threads[t];
@@ -102,7 +104,7 @@ impl State {
         requires hazard_nonzero { 0 < (slot_at self (position_of self thread slot)).hazard }
         ensures { result ≡ read_of self thread slot }
     {
-        let p = position(thread, self.sizes.slots, slot) as usize;
+        let p = self.sizes.position(thread, slot) as usize;
         let held = self.slots[p];
         let o = held.hazard as usize - 1;
         let tag = self.tags[o];
@@ -139,7 +141,7 @@ impl State {
         requires { (thread < 8) × (position_of self thread slot < 32) }
         ensures { result ≡ clear_of self thread slot }
     {
-        let p = position(thread, self.sizes.slots, slot) as usize;
+        let p = self.sizes.position(thread, slot) as usize;
         let held = self.slots[p];
         let mut next = self;
         next.slots[p] = Slot {

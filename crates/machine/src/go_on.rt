@@ -5,9 +5,8 @@ ghost use Rattle.machine.specs.Parts.{link_at, position_of};
 ghost use Rattle.machine.specs.Soundness.{sound};
 ghost use Rattle.machine.specs.GoOn.{publish_of, confirm_of, empty_of, look_of, hand_over_of, go_on_of};
 
-use crate::parts::position;
 use crate::{Answer, Outcome, Refusal, State, Work};
-use entries::{Phase, Slot, Thread, is_idle, looking, returns_to, swapping};
+use entries::{Phase, Slot, Thread};
 
 impl State {
     // "Loaded: store the object in the hazard, mark off." The handover is next.
@@ -15,7 +14,7 @@ impl State {
         requires { (thread < 8) × (position_of self thread slot < 32) }
         ensures { result ≡ publish_of self thread slot link object }
     {
-        let own = position(thread, self.sizes.slots, slot);
+        let own = self.sizes.position(thread, slot);
         let p = own as usize;
         let held = self.slots[p];
         self.slots[p] = Slot {
@@ -44,7 +43,7 @@ impl State {
     {
         let l = link as usize;
         let object = self.links[l];
-        let own = position(thread, self.sizes.slots, slot);
+        let own = self.sizes.position(thread, slot);
         let p = own as usize;
         let held = self.slots[p];
         let t = thread as usize;
@@ -88,7 +87,7 @@ impl State {
         requires { (thread < 8) × (position_of self thread slot < 32) }
         ensures { result ≡ empty_of self thread slot back }
     {
-        let own = position(thread, self.sizes.slots, slot);
+        let own = self.sizes.position(thread, slot);
         let p = own as usize;
         let held = self.slots[p];
         let object = held.handover;
@@ -104,7 +103,7 @@ impl State {
                 hand: me.hand,
                 phase: back,
             };
-            if is_idle(back) {
+            if back.is_idle() {
                 return Outcome {
                     state: self,
                     answer: Answer::Finished,
@@ -117,7 +116,7 @@ impl State {
         }
         self.threads[t] = Thread {
             hand: me.hand,
-            phase: looking(back, object, own),
+            phase: back.looking(object, own),
         };
         Outcome {
             state: self,
@@ -139,12 +138,11 @@ impl State {
         let there = self.slots[p];
         let t = thread as usize;
         let me = self.threads[t];
-        let now = me.phase;
-        let back = returns_to(now);
+        let back = me.phase.returns_to();
         if there.hazard == object {
             self.threads[t] = Thread {
                 hand: me.hand,
-                phase: swapping(back, object, position),
+                phase: back.swapping(object, position),
             };
             return Outcome {
                 state: self,
@@ -154,7 +152,7 @@ impl State {
         let further = position + 1;
         self.threads[t] = Thread {
             hand: me.hand,
-            phase: looking(back, object, further),
+            phase: back.looking(object, further),
         };
         Outcome {
             state: self,
@@ -171,10 +169,9 @@ impl State {
         let freed = pool.put_back(object);
         let t = thread as usize;
         let me = self.threads[t];
-        let phase = me.phase;
         self.threads[t] = Thread {
             hand: me.hand,
-            phase: returns_to(phase),
+            phase: me.phase.returns_to(),
         };
         let o = object as usize - 1;
         self.pool = freed;
@@ -200,8 +197,7 @@ impl State {
         };
         let t = thread as usize;
         let me = self.threads[t];
-        let now = me.phase;
-        let back = returns_to(now);
+        let back = me.phase.returns_to();
         if old == 0 {
             self.threads[t] = Thread {
                 hand: me.hand,
@@ -216,7 +212,7 @@ impl State {
         let again = position;
         self.threads[t] = Thread {
             hand: me.hand,
-            phase: looking(back, old, again),
+            phase: back.looking(old, again),
         };
         Outcome {
             state: self,

@@ -8,7 +8,7 @@ ghost use Rattle.machine.specs.Refusals.{reads_slot, field_rows, thread_rows, ob
 
 use crate::request::Request;
 use crate::{Call, Operation, Refusal, State};
-use entries::{Sizes, Slot, Thread, is_idle};
+use entries::{Sizes, Slot, Thread};
 use pool::Pool;
 
 // The lines that look at the call's fields and the sizes alone.
@@ -38,7 +38,7 @@ fn by_fields(sizes: Sizes, call: Call) -> Result<Request, Refusal>
 fn by_thread(me: Thread, operation: Operation) -> Result<(), Refusal>
     ensures { Refuses (first_of (thread_rows me (operation_number operation))) result }
 {
-    let idle = is_idle(me.phase);
+    let idle = me.phase.is_idle();
     match operation {
         Operation::GoOn if idle => Err(Refusal::Idle),
         Operation::GoOn => Ok(()),
@@ -58,7 +58,7 @@ fn by_objects(sizes: Sizes, slots: [Slot; 32], pool: Pool, request: Request) -> 
     if request.unprotected(sizes, slots) {
         return Err(Refusal::NotProtected);
     }
-    if request.operation == Operation::Take && pool.next() == 0 {
+    if request.operation == Operation::Take && pool.next().is_none() {
         return Err(Refusal::NoneFree);
     }
     Ok(())

@@ -4,7 +4,6 @@ ghost use Rattle.entries.specs.Entries.{empty_slot};
 ghost use Rattle.machine.specs.Operations.{operation_number};
 ghost use Rattle.machine.specs.Refusals.{unused_not_zero, without_slot, reads_slot};
 
-use crate::parts::{position, slot_at};
 use crate::{Call, Operation};
 use entries::{Sizes, Slot};
 
@@ -49,6 +48,6 @@ impl Request {
         ensures { result ≡ (reads_slot self.call && not (get_or slots (self.call.thread * sizes.slots + self.call.slot) empty_slot).mark) }
     {
         let Call { thread, slot, .. } = self.call;
-        self.reads_slot() && !slot_at(slots, position(thread, sizes.slots, slot)).mark
+        self.reads_slot() && !slots[usize::from(sizes.position(thread, slot))].mark
     }
 }

@@ -4,7 +4,7 @@ ghost use Rattle.machine.specs.Parts.{of_parts};
 ghost use Rattle.machine.specs.Soundness.{sound};
 
 use crate::State;
-use entries::{Sizes, Slot, Thread, sizes_good};
+use entries::{Sizes, Slot, Thread};
 use good::{links_good, slots_good, tags_good, threads_good};
 use places::row_of;
 use pool::are_placed;
@@ -22,7 +22,7 @@ pub(crate) fn parts_sound<'a>(
     requires { (length links.now ≡ 16) × (length marks.now ≡ 240) × (length tags.now ≡ 240) }
     ensures { result ≡ sound (of_parts z links.now threads slots marks.now tags.now) }
 {
-    if !sizes_good(z) {
+    if !z.are_good() {
         return false;
     }
     if !links_good(z, links) {

@@ -5,7 +5,7 @@ ghost use Rattle.basics.specs.Counts.{how_many};
 ghost use Rattle.entries.specs.Entries.{is_object};
 
 use basics::bit;
-use entries::{Slot, Thread, carried};
+use entries::{Slot, Thread};
 
 pub fn in_links(links: [u8; 16]) -> u8
     ensures { result ≡ how_many is_object links }
@@ -52,8 +52,7 @@ pub fn are_carried(threads: [Thread; 8]) -> u8
     let mut i = 0;
     while i < 8 {
         let thread = threads[i];
-        let phase = thread.phase;
-        n += bit(carried(phase) != 0);
+        n += bit(thread.phase.carried() != 0);
         i += 1;
     }
     n

@@ -6,7 +6,7 @@ ghost use Rattle.entries.specs.Phases.{carried_by};
 ghost use Rattle.places.specs.Row.{row_of};
 
 use basics::{least, wide};
-use entries::{Sizes, Slot, Thread, carried, positions};
+use entries::{Sizes, Slot, Thread};
 
 fn lay_links(row: &mut [u8; 64], links: [u8; 16], end: usize)
     requires { (length row.old ≡ 64) × (end ≤ 16) }
@@ -50,8 +50,7 @@ fn lay_carried(row: &mut [u8; 64], threads: [Thread; 8], end: usize)
     let mut i = 0;
     while i < end {
         let thread = threads[i];
-        let phase = thread.phase;
-        row[56 + i] = carried(phase);
+        row[56 + i] = thread.phase.carried();
         i += 1;
     }
 }
@@ -63,7 +62,7 @@ pub fn row_of(z: Sizes, links: [u8; 16], threads: [Thread; 8], slots: [Slot; 32]
     let some = least(wide(z.threads), 8);
     lay_links(&mut row, links, least(wide(z.links), 16));
     lay_hands(&mut row, threads, some);
-    lay_handovers(&mut row, slots, least(positions(z), 32));
+    lay_handovers(&mut row, slots, least(z.positions(), 32));
     lay_carried(&mut row, threads, some);
     row
 }

@@ -4,9 +4,8 @@
 
 mod num;
 mod raw;
-mod same;
 mod task;
 
-pub use num::{byte, position, up, wide, wide32, word};
-pub use raw::{Raw, empty};
-pub use task::{DRAINING, IDLE, LOADED, LOOK, Order, PUBLISHED, SWAP, Said, Task, idle, scanning};
+pub use num::{byte, position, word};
+pub use raw::Raw;
+pub use task::{Doing, Operation, Order, Said, Task};

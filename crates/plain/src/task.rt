@@ -1,22 +1,21 @@
 // What a thread is in the middle of, a call and an answer, in plain numbers.
-pub const IDLE: usize = 0;
 
-pub const LOADED: usize = 1;
-
-pub const PUBLISHED: usize = 2;
-
-pub const DRAINING: usize = 3;
-
-pub const LOOK: usize = 4;
-
-pub const SWAP: usize = 5;
+#[derive(Clone, Copy, Debug, PartialEq, Eq)]
+pub enum Doing {
+    Idle,
+    Loaded,
+    Published,
+    Draining,
+    Look,
+    Swap,
+}
 
 // Fields that a task does not use are 0. `seen` is the object that Loaded, Look or Swap names. `back` is set where request 2 has
 // the thread return to Published: in the drain that follows a publication, which is called a sweep, and in the scan that comes
 // of it. Their slot and link are those of the protect.
-#[derive(Clone, Copy)]
+#[derive(Clone, Copy, Debug, PartialEq, Eq)]
 pub struct Task {
-    pub doing: usize,
+    pub doing: Doing,
     pub back: bool,
     pub slot: usize,
     pub link: usize,
@@ -24,7 +23,20 @@ pub struct Task {
     pub position: usize,
 }
 
-#[derive(Clone, Copy)]
+// 01's operations, 1 to 7.
+#[derive(Clone, Copy, Debug, PartialEq, Eq)]
+pub enum Operation {
+    Take,
+    Protect,
+    Swap,
+    Read,
+    Retire,
+    Clear,
+    GoOn,
+}
+
+// A call. `operation` is any number, as it may come.
+#[derive(Clone, Copy, Debug, PartialEq, Eq)]
 pub struct Order {
     pub thread: usize,
     pub operation: usize,
@@ -34,38 +46,59 @@ pub struct Order {
 }
 
 // An answer or refusal by 01's number, with its two values.
-#[derive(Clone, Copy)]
+#[derive(Clone, Copy, Debug, PartialEq, Eq)]
 pub struct Said {
     pub number: usize,
     pub a: usize,
     pub b: usize,
 }
 
-impl Said {
-    pub fn same(self, other: Said) -> bool {
-        (self.number == other.number) & (self.a == other.a) & (self.b == other.b)
+impl Operation {
+    // None where the number is no operation's.
+    pub fn of(number: usize) -> Option<Operation> {
+        match number {
+            1 => Some(Operation::Take),
+            2 => Some(Operation::Protect),
+            3 => Some(Operation::Swap),
+            4 => Some(Operation::Read),
+            5 => Some(Operation::Retire),
+            6 => Some(Operation::Clear),
+            7 => Some(Operation::GoOn),
+            _ => None,
+        }
     }
 }
 
-pub fn idle() -> Task {
-    Task {
-        doing: IDLE,
+impl Order {
+    pub fn known(self) -> Option<Operation> {
+        Operation::of(self.operation)
+    }
+}
+
+impl Task {
+    pub const IDLE: Task = Task {
+        doing: Doing::Idle,
         back: false,
         slot: 0,
         link: 0,
         seen: 0,
         position: 0,
-    }
-}
+    };
 
-// Look or Swap at a position, the object not said. 02: "Such a thread remembers its slot and link through the scan".
-pub fn scanning(from: Task, doing: usize, position: usize) -> Task {
-    Task {
-        doing,
-        back: from.back,
-        slot: if from.back { from.slot } else { 0 },
-        link: if from.back { from.link } else { 0 },
-        seen: 0,
-        position,
+    // Look and Swap, in which a thread carries an object.
+    pub fn scans(self) -> bool {
+        matches!(self.doing, Doing::Look | Doing::Swap)
+    }
+
+    // Look or Swap at a position, the object not said. 02: "Such a thread remembers its slot and link through the scan".
+    pub fn scanning(self, doing: Doing, position: usize) -> Task {
+        Task {
+            doing,
+            back: self.back,
+            slot: if self.back { self.slot } else { 0 },
+            link: if self.back { self.link } else { 0 },
+            seen: 0,
+            position,
+        }
     }
 }

@@ -1,6 +1,6 @@
 -- "per object: a free mark"; object o's stands at o − 1. Which objects are free, which is handed out next, and what taking one out and putting
 -- one back do.
-use Rattle.std.specs.Prelude.{ℕ, zero, suc, ◌+◌, ◌-◌, Bool, true, false, cond, not, ◌&&◌, ◌||◌, List, [], ◌∷◌, ◌++◌, length, get_or, set, replicate, leb, ltb, eqb}
+use Rattle.std.specs.Prelude.{ℕ, zero, suc, ◌+◌, ◌-◌, Bool, true, false, cond, not, ◌&&◌, ◌||◌, List, [], ◌∷◌, ◌++◌, length, get_or, set, replicate, leb, ltb, eqb, Option, Some, None}
 use Rattle.pool.specs.declared.Pool.{Pool}
 use Rattle.basics.specs.Counts.{bit, how_many, count_under}
 use Rattle.basics.specs.Under.{all_under}
@@ -22,6 +22,11 @@ first_on k (false ∷ marks) = first_on (suc k) marks
 -- "lowest-numbered free object"; 0 where none is free
 unfoldable pub next_of : Pool → ℕ
 next_of pool = first_on 0 pool.marks
+
+-- an object by its number, 0 being none
+abbrev pub object_of : ℕ → Option ℕ
+object_of zero = None
+object_of (suc k) = Some (suc k)
 
 -- the marks of which the first n are on
 unfoldable pub marked : ℕ → List Bool

@@ -4,9 +4,9 @@
 
 mod marks;
 
-ghost use Rattle.std.specs.Prelude.{◌≡◌, false, not, ◌&&◌, ◌||◌, ◌≤◌, get_or, ltb};
+ghost use Rattle.std.specs.Prelude.{◌≡◌, false, not, ◌&&◌, ◌||◌, ◌≤◌, ◌<◌, get_or, ltb, MatchOption};
 ghost use Rattle.basics.specs.Under.{all_under};
-ghost use Rattle.pool.specs.Pool.{pool_of, is_free, next_of, fresh_pool, taken_out, put_back, free_count, each_once};
+ghost use Rattle.pool.specs.Pool.{pool_of, is_free, object_of, next_of, fresh_pool, taken_out, put_back, free_count, each_once};
 
 use marks::{are_on, each_once, first_marked, first_on, off_from};
 
@@ -29,12 +29,14 @@ impl Pool {
         Pool { marks }
     }
 
-    // The object that is handed out next; 0 where none is free.
-    pub fn next(self) -> u8
-        ensures number { result ≡ next_of self }
-        ensures within { result ≤ 240 }
+    // The object that is handed out next, if one is free.
+    pub fn next(self) -> Option<u8>
+        ensures value { result ≡ object_of (next_of self) }
+        ensures cases { MatchOption result (next_of self ≡ 0) (λ object. (object ≡ next_of self) × (0 < object)) }
+        ensures within { next_of self ≤ 240 }
     {
-        first_on(&self.marks)
+        let first = first_on(&self.marks)?;
+        Some(first as u8 + 1)
     }
 
     pub fn is_free(self, object: u8) -> bool

@@ -1,5 +1,5 @@
 // The marks of a pool, one after the other.
-ghost use Rattle.std.specs.Prelude.{◌≡◌, false, not, ◌||◌, suc, ◌+◌, ◌≤◌, length, get_or, ltb, eqb};
+ghost use Rattle.std.specs.Prelude.{◌≡◌, false, not, ◌||◌, suc, ◌+◌, ◌≤◌, length, get_or, ltb, eqb, position};
 ghost use Rattle.basics.specs.Counts.{bit, count_under, how_many};
 ghost use Rattle.basics.specs.Under.{all_under};
 ghost use Rattle.pool.specs.Pool.{marked, first_on};
@@ -21,20 +21,11 @@ pub(crate) fn first_marked(n: u8) -> [bool; 240]
     marks
 }
 
-// The number of the first mark that is on; 0 where none is.
-pub(crate) fn first_on(marks: &[bool; 240]) -> u8
-    requires { length marks.now ≡ 240 }
-    ensures number { result ≡ first_on 0 marks.now }
-    ensures within { result ≤ 240 }
+// Where the first mark that is on stands.
+pub(crate) fn first_on(marks: &[bool; 240]) -> Option<usize>
+    ensures { result ≡ position (λ mark. mark) marks.now }
 {
-    let mut k: usize = 0;
-    while k < 240 {
-        if marks[k] {
-            return k as u8 + 1;
-        }
-        k += 1;
-    }
-    0
+    marks.iter().position(|&mark| mark)
 }
 
 pub(crate) fn are_on(marks: &[bool; 240]) -> u8

@@ -1,11 +1,17 @@
 -- What reading answers. "Reading looks at the front of the input".
-use Rattle.std.specs.Prelude.{ℕ, List, [], ◌∷◌, Bool, cond, not, ◌&&◌, ◌||◌, length, get_or, ltb, eqb}
+use Rattle.std.specs.Prelude.{ℕ, List, [], ◌∷◌, Bool, cond, not, ◌&&◌, ◌||◌, length, get_or, ltb, eqb, Result, Ok, Err, Option, Some, None}
 use Rattle.records.specs.declared.SizesRecord.{SizesRecord}
 use Rattle.records.specs.declared.StepRecord.{StepRecord}
-use Rattle.records.specs.declared.Read.{Read}
-use Rattle.records.specs.declared.Read.TheVariants.{Sizes, Step, End, Refused}
+use Rattle.records.specs.declared.Record.{Record}
+use Rattle.records.specs.declared.Record.TheVariants.{Sizes, Step}
+use Rattle.records.specs.declared.Malformed.{Malformed}
+use Rattle.records.specs.declared.Malformed.TheVariants.{Short, OtherMark, NotZero}
 use Rattle.records.specs.Marks.{sizes_mark, step_mark, marked}
 use Rattle.records.specs.Bytes.{number_of}
+
+-- a record, none at the end of the input, or why the bytes are no record
+abbrev pub Read : Type 0
+Read = Result (Option Record) Malformed
 
 -- "then T, H, L, N one byte each"
 unfoldable pub sizes_at : List ℕ → SizesRecord
@@ -37,8 +43,8 @@ zeros_at_end bytes =
 -- Values are not judged at reading."
 unfoldable pub read_of : List ℕ → Read
 read_of bytes =
-    cond (eqb (length bytes) 0) End
-    (cond (ltb (length bytes) 10) (Refused 40)
-    (cond (not (marked sizes_mark bytes || marked step_mark bytes)) (Refused 41)
-    (cond (marked sizes_mark bytes && not (zeros_at_end bytes)) (Refused 44)
-    (cond (marked sizes_mark bytes) (Sizes (sizes_at bytes)) (Step (step_at bytes))))))
+    cond (eqb (length bytes) 0) (Ok None)
+    (cond (ltb (length bytes) 10) (Err Short)
+    (cond (not (marked sizes_mark bytes || marked step_mark bytes)) (Err OtherMark)
+    (cond (marked sizes_mark bytes && not (zeros_at_end bytes)) (Err NotZero)
+    (Ok (Some (cond (marked sizes_mark bytes) (Sizes (sizes_at bytes)) (Step (step_at bytes))))))))

@@ -3,68 +3,50 @@ ghost use Rattle.std.specs.Prelude.{◌≡◌};
 ghost use Rattle.records.specs.Bytes.{sizes_bytes, step_bytes};
 ghost use Rattle.records.specs.Writing.{answer_of, written_of};
 
-use crate::{SizesRecord, StepRecord, Written};
+use crate::{MARK, NoRoom, SIZES, STEP, SizesRecord, StepRecord};
 
 // Ten bytes over the first ten of the buffer, or a refusal where it is shorter.
 #[tactic(auto, unfolding(crate::specs::Writing::answer_of, crate::specs::Writing::written_of))]
-fn put(buf: &mut [u8], bytes: [u8; 10]) -> Written
+fn put(buf: &mut [u8], bytes: [u8; 10]) -> Result<(), NoRoom>
     ensures answer { result ≡ answer_of buf.old }
     ensures bytes { buf.new ≡ written_of bytes buf.old }
 {
-    if buf.len() < 10 {
-        return Written::Refused(45);
-    }
-    let mut i = 0;
-    while i < 10 {
-        buf[i] = bytes[i];
-        i += 1;
-    }
-    Written::Done
+    let front = buf.first_chunk_mut().ok_or(NoRoom)?;
+    *front = bytes;
+    Ok(())
 }
 
 // Writes a sizes record: its mark, the four sizes and four zero bytes.
-pub fn write_sizes(buf: &mut [u8], sizes: SizesRecord) -> Written
+#[tactic(auto, unfolding(crate::specs::Bytes::sizes_bytes))]
+pub fn write_sizes(buf: &mut [u8], sizes: SizesRecord) -> Result<(), NoRoom>
     ensures answer { result ≡ answer_of buf.old }
     ensures bytes { buf.new ≡ written_of (sizes_bytes sizes) buf.old }
 {
+    let SizesRecord {
+        threads,
+        slots,
+        links,
+        objects,
+    } = sizes;
     put(
         buf,
-        [
-            84,
-            83,
-            sizes.threads,
-            sizes.slots,
-            sizes.links,
-            sizes.objects,
-            0,
-            0,
-            0,
-            0,
-        ],
+        [MARK, SIZES, threads, slots, links, objects, 0, 0, 0, 0],
     )
 }
 
 // Writes a step record: its mark, the four fields of one byte and the tag, low byte first.
-pub fn write_step(buf: &mut [u8], step: StepRecord) -> Written
+#[tactic(auto, unfolding(crate::specs::Bytes::step_bytes, crate::specs::Bytes::low_first))]
+pub fn write_step(buf: &mut [u8], step: StepRecord) -> Result<(), NoRoom>
     ensures answer { result ≡ answer_of buf.old }
     ensures bytes { buf.new ≡ written_of (step_bytes step) buf.old }
 {
-    let above0 = step.tag / 256;
-    let above1 = above0 / 256;
-    let above2 = above1 / 256;
-    put(
-        buf,
-        [
-            84,
-            75,
-            step.thread,
-            step.operation,
-            step.slot,
-            step.link,
-            (step.tag % 256) as u8,
-            (above0 % 256) as u8,
-            (above1 % 256) as u8,
-            (above2 % 256) as u8,
-        ],
-    )
+    let StepRecord {
+        thread,
+        operation,
+        slot,
+        link,
+        tag,
+    } = step;
+    let [a, b, c, d] = tag.to_le_bytes();
+    put(buf, [MARK, STEP, thread, operation, slot, link, a, b, c, d])
 }

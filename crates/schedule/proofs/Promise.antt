@@ -4,6 +4,8 @@ use Rattle.std.specs.Prelude.{ℕ, ◌≡◌, List, length, take}
 use Rattle.entries.specs.declared.Sizes.{Sizes}
 use Rattle.machine.specs.declared.Call.{Call}
 use Rattle.records.specs.Rest.{rest_of}
+use Rattle.schedule.specs.declared.Stop.{Stop}
+use Rattle.schedule.specs.Stopping.{stop_number}
 use Rattle.schedule.specs.Input.{calls_up_to, after, Ending, run, no_run, input_of, input_for_all}
 use Rattle.schedule.specs.Opening.{opened, unopened, opened_of}
 use Rattle.schedule.specs.Asked.{found_of, found_in}
@@ -24,7 +26,9 @@ pub run_found :
 run_found = begun.run_found
 
 -- An input that says no run opens no machine, and stops with the same number.
-pub none_opened : (input : List ℕ) (number : ℕ) → input_of input ≡ no_run number → opened_of input ≡ unopened number
+pub none_opened :
+    (input : List ℕ) (number : ℕ) → input_of input ≡ no_run number →
+    (why : Stop) × ((opened_of input ≡ unopened why) × (stop_number why ≡ number))
 none_opened = begun.none_opened
 
 -- 60,020 bytes decide what an input says: what comes after them is never looked at.

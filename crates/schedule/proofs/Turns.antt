@@ -1,41 +1,39 @@
 -- What a loop over a run needs to know of one turn, and of its start.
 use Prim.Native.Nat.{ℕ, suc, ◌+◌, ◌-◌, ◌≤◌, ◌<◌}
 use native.Mathlib.Omega.{arith}
-use Rattle.std.specs.Prelude.{◌≡◌, refl, List, length, ltb}
+use Rattle.std.specs.Prelude.{◌≡◌, refl, List, length, ltb, Result, Ok, Err, Some, None}
 use Rattle.std.proofs.Common.{ltb-true}
 use Rattle.basics.specs.Tests.{by_test, clash}
-use Rattle.entries.specs.declared.Sizes.{Sizes}
 use Rattle.entries.specs.Sizes.{in_range}
 use Rattle.machine.specs.declared.State.{State}
-use Rattle.machine.specs.declared.Started.{Started}
-use Rattle.machine.specs.declared.Verdict.{Verdict}
-use Rattle.machine.specs.declared.Verdict.TheVariants as verdict
 use Rattle.machine.specs.declared.Call.{Call}
 use Rattle.machine.specs.Fresh.{fresh_of, start_of}
-use Rattle.records.specs.declared.Read.{Read}
-use Rattle.records.specs.declared.Read.TheVariants as read
-use Rattle.records.specs.Reading.{read_of}
+use Rattle.records.specs.declared.SizesRecord.{SizesRecord}
+use Rattle.records.specs.declared.Record.TheVariants as record_of
+use Rattle.records.specs.Reading.{Read, read_of}
 use Rattle.records.specs.Rest.{rest_of}
-use Rattle.schedule.specs.declared.Next.{Next}
-use Rattle.schedule.specs.declared.Next.TheVariants as next
+use Rattle.schedule.specs.declared.Opened.{Opened}
+use Rattle.schedule.specs.declared.Stop.{Stop}
+use Rattle.schedule.specs.declared.Stop.TheVariants.{TooManySteps}
 use Rattle.schedule.specs.Said.{sizes_of}
 use Rattle.schedule.specs.Input.{calls_up_to, after, ending_at, Input, run, no_run, sized, begun, input_of}
-use Rattle.schedule.specs.Opening.{unopened, opened_by, opened_of}
-use Rattle.schedule.specs.Going.{next_at, next_of}
+use Rattle.schedule.specs.Opening.{unopened, first_at, first_of, verdict_of, opened_by, opened_of}
+use Rattle.schedule.specs.Going.{Next, next_at, next_of}
+use Rattle.schedule.specs.Stopping.{stop_number}
 use Rattle.schedule.specs.Asked.{found_at, found_from}
 
 -- a call comes only while fewer than 6,000 were done
-step_room : (steps : ℕ) (c : Call) (found : Read) → next_at steps found ≡ next.Call c → steps < 6000
+step_room : (steps : ℕ) (c : Call) (found : Read) → next_at steps found ≡ Ok (Some c) → steps < 6000
 unfolding next_at
-step_room steps c (read.Sizes r) e = clash (cc)
-step_room steps c (read.Step r) e =
+step_room steps c (Ok (Some (record_of.Sizes r))) e = clash (cc)
+step_room steps c (Ok (Some (record_of.Step r))) e =
     by_test (steps < 6000) (ltb steps 6000) (λ room. ltb-true steps 6000 room)
-    (λ full. let stop : next.Stop 43 ≡ next.Call c = rw full at e in clash (cc))
-step_room steps c read.End e = clash (cc)
-step_room steps c (read.Refused number) e = clash (cc)
+    (λ full. let stop : ◌≡◌ {A = Next} (Err TooManySteps) (Ok (Some c)) = rw full at e in clash (cc))
+step_room steps c (Ok None) e = clash (cc)
+step_room steps c (Err why) e = clash (cc)
 
 module _ (steps : ℕ) (left : List ℕ) where
-  pub call_room : (c : Call) → next_of steps left ≡ next.Call c → steps < 6000
+  pub call_room : (c : Call) → next_of steps left ≡ Ok (Some c) → steps < 6000
   unfolding next_of
   call_room c e = step_room steps c (read_of left) e
 
@@ -49,38 +47,38 @@ module _ (steps : ℕ) (left : List ℕ) where
       rw (asked, e)
 
 -- what an input says, by what was opened
-abbrev SaysAt : Verdict → State → Input → List ℕ → Type 0
-SaysAt verdict.Good s said rest =
+abbrev SaysAt : Result (Unit {0}) Stop → State → Input → List ℕ → Type 0
+SaysAt (Ok done) s said rest =
     let calls = calls_up_to 6000 rest in
     (said ≡ run s.sizes calls (ending_at (read_of (after (length calls) rest)))) × (s ≡ fresh_of s.sizes)
-SaysAt (verdict.Refused number) s said rest = said ≡ no_run number
+SaysAt (Err why) s said rest = said ≡ no_run (stop_number why)
 
-abbrev Says : Started → Input → List ℕ → Type 0
+abbrev Says : Opened → Input → List ℕ → Type 0
 Says by said rest = SaysAt by.verdict by.state said rest
 
-sized_says : (z : Sizes) (rest : List ℕ) → Says (start_of z) (sized z rest) rest
-unfolding sized start_of fresh_of
-sized_says z rest =
-    by_test (Says (start_of z) (sized z rest) rest) (in_range z) (λ good. rw good (refl, refl)) (λ bad. rw bad refl)
+sized_says : (r : SizesRecord) (rest : List ℕ) → Says (opened_by (Ok r)) (sized (sizes_of r) rest) rest
+unfolding sized start_of fresh_of opened_by verdict_of stop_number
+sized_says r rest =
+    by_test (Says (opened_by (Ok r)) (sized (sizes_of r) rest) rest) (in_range (sizes_of r)) (λ good. rw good (refl, refl)) (λ bad. rw bad refl)
 
-begun_says : (found : Read) (rest : List ℕ) → Says (opened_by found) (begun found rest) rest
-unfolding begun opened_by unopened
-begun_says (read.Sizes r) rest = sized_says (sizes_of r) rest
-begun_says (read.Step r) rest = refl
-begun_says read.End rest = refl
-begun_says (read.Refused number) rest = refl
+begun_says : (found : Read) (rest : List ℕ) → Says (opened_by (first_at found)) (begun found rest) rest
+unfolding begun first_at opened_by unopened stop_number
+begun_says (Ok (Some (record_of.Sizes r))) rest = sized_says r rest
+begun_says (Ok (Some (record_of.Step r))) rest = refl
+begun_says (Ok None) rest = refl
+begun_says (Err why) rest = refl
 
-says : (input : List ℕ) (by : Started) → by ≡ opened_of input → Says by (input_of input) (rest_of input)
-unfolding input_of opened_of
+says : (input : List ℕ) (by : Opened) → by ≡ opened_of input → Says by (input_of input) (rest_of input)
+unfolding input_of opened_of first_of
 says input by e = rw e (begun_says (read_of input) (rest_of input))
 
-module _ (input : List ℕ) (by : Started) (is : by ≡ opened_of input) where
+module _ (input : List ℕ) (by : Opened) (is : by ≡ opened_of input) where
   pub good_says :
-      by.verdict ≡ verdict.Good →
+      by.verdict ≡ Ok tt →
       let calls = calls_up_to 6000 (rest_of input) in
       (input_of input ≡ run by.state.sizes calls (ending_at (read_of (after (length calls) (rest_of input))))) ×
       (by.state ≡ fresh_of by.state.sizes)
   good_says g = rw g at (says input by is)
 
-  pub refused_says : (number : ℕ) → by.verdict ≡ verdict.Refused number → input_of input ≡ no_run number
-  refused_says number g = rw g at (says input by is)
+  pub refused_says : (why : Stop) → by.verdict ≡ Err why → input_of input ≡ no_run (stop_number why)
+  refused_says why g = rw g at (says input by is)

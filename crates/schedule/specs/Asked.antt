@@ -1,12 +1,11 @@
 -- A run as whoever asks what stands next until there is no call finds it, and as its bytes say it.
-use Rattle.std.specs.Prelude.{ℕ, zero, suc, ◌+◌, List, [], ◌∷◌, length}
+use Rattle.std.specs.Prelude.{ℕ, zero, suc, ◌+◌, List, [], ◌∷◌, length, Ok, Err, Some, None}
 use Rattle.machine.specs.declared.Call.{Call}
 use Rattle.records.specs.Reading.{read_of}
 use Rattle.records.specs.Rest.{rest_of}
-use Rattle.schedule.specs.declared.Next.{Next}
-use Rattle.schedule.specs.declared.Next.TheVariants as next
 use Rattle.schedule.specs.Input.{after, Ending, ended, stopped, ending_at}
-use Rattle.schedule.specs.Going.{next_of}
+use Rattle.schedule.specs.Going.{Next, next_of}
+use Rattle.schedule.specs.Stopping.{stop_number}
 
 -- the calls, how they end, and the bytes from there on
 pub record Found : Type 0 where
@@ -15,9 +14,9 @@ pub record Found : Type 0 where
   pub left : List ℕ
 
 unfoldable pub found_at : Next → Found → List ℕ → Found
-found_at (next.Call c) more left = record { calls = c ∷ more.calls; ending = more.ending; left = more.left }
-found_at next.End more left = record { calls = []; ending = ended; left = left }
-found_at (next.Stop number) more left = record { calls = []; ending = stopped number; left = left }
+found_at (Ok (Some c)) more left = record { calls = c ∷ more.calls; ending = more.ending; left = more.left }
+found_at (Ok None) more left = record { calls = []; ending = ended; left = left }
+found_at (Err why) more left = record { calls = []; ending = stopped (stop_number why); left = left }
 
 -- by at most so many questions, from so many steps on; the bytes after a call are those after its record
 unfoldable pub found_from : ℕ → ℕ → List ℕ → Found

@@ -1,19 +1,23 @@
 -- What stands next in a run after its first record.
-use Rattle.std.specs.Prelude.{ℕ, cond, List, ltb}
-use Rattle.records.specs.declared.Read.{Read}
-use Rattle.records.specs.declared.Read.TheVariants as read
-use Rattle.records.specs.Reading.{read_of}
-use Rattle.schedule.specs.declared.Next.{Next}
-use Rattle.schedule.specs.declared.Next.TheVariants as next
+use Rattle.std.specs.Prelude.{ℕ, cond, List, ltb, Result, Ok, Err, Option, Some, None}
+use Rattle.machine.specs.declared.Call.{Call}
+use Rattle.records.specs.declared.Record.TheVariants.{Sizes, Step}
+use Rattle.records.specs.Reading.{Read, read_of}
+use Rattle.schedule.specs.declared.Stop.{Stop}
+use Rattle.schedule.specs.declared.Stop.TheVariants.{Malformed, SizesNotFirst, TooManySteps}
 use Rattle.schedule.specs.Said.{call_of}
+
+-- a call for the machine, none at the end of the input, or why the run stops
+abbrev pub Next : Type 0
+Next = Result (Option Call) Stop
 
 -- After so many steps, at what was read. "42: .. a sizes record comes later. 43: a 6,001st step. A record's own 40, 41 or 44 comes before
 -- both."
 unfoldable pub next_at : ℕ → Read → Next
-next_at steps (read.Sizes r) = next.Stop 42
-next_at steps (read.Step r) = cond (ltb steps 6000) (next.Call (call_of r)) (next.Stop 43)
-next_at steps read.End = next.End
-next_at steps (read.Refused number) = next.Stop number
+next_at steps (Ok (Some (Sizes r))) = Err SizesNotFirst
+next_at steps (Ok (Some (Step r))) = cond (ltb steps 6000) (Ok (Some (call_of r))) (Err TooManySteps)
+next_at steps (Ok None) = Ok None
+next_at steps (Err why) = Err (Malformed why)
 
 unfoldable pub next_of : ℕ → List ℕ → Next
 next_of steps left = next_at steps (read_of left)

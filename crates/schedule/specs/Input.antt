@@ -1,20 +1,20 @@
 -- What an input says, by its bytes alone: nothing here asks the machine. "one sizes record, then at most 6,000 steps"
-use Rattle.std.specs.Prelude.{ℕ, zero, suc, ◌*◌, cond, List, [], ◌∷◌, length}
+use Rattle.std.specs.Prelude.{ℕ, zero, suc, ◌*◌, cond, List, [], ◌∷◌, length, Ok, Err, Some, None}
 use Rattle.entries.specs.declared.Sizes.{Sizes}
 use Rattle.entries.specs.Sizes.{in_range}
 use Rattle.machine.specs.declared.Call.{Call}
-use Rattle.records.specs.declared.Read.{Read}
-use Rattle.records.specs.declared.Read.TheVariants as read
-use Rattle.records.specs.Reading.{read_of}
+use Rattle.records.specs.declared.Record.TheVariants as record_of
+use Rattle.records.specs.Numbers.{malformed_number}
+use Rattle.records.specs.Reading.{Read, read_of}
 use Rattle.records.specs.Rest.{rest_of}
 use Rattle.schedule.specs.Said.{sizes_of, call_of}
 
 -- a step and the calls after it; no call where the record is not a step
 unfoldable pub calls_at : Read → List Call → List Call
-calls_at (read.Step r) more = call_of r ∷ more
-calls_at (read.Sizes r) more = []
-calls_at read.End more = []
-calls_at (read.Refused number) more = []
+calls_at (Ok (Some (record_of.Step r))) more = call_of r ∷ more
+calls_at (Ok (Some (record_of.Sizes r))) more = []
+calls_at (Ok None) more = []
+calls_at (Err why) more = []
 
 -- the calls of the step records at the front, of at most so many, up to the first record that is not a step
 unfoldable pub calls_up_to : ℕ → List ℕ → List Call
@@ -33,10 +33,10 @@ pub data Ending : Type 0 where
 
 -- by what stands after the calls. "42: .. a sizes record comes later. 43: a 6,001st step. A record's own 40, 41 or 44 comes before both."
 unfoldable pub ending_at : Read → Ending
-ending_at read.End = ended
-ending_at (read.Sizes r) = stopped 42
-ending_at (read.Step r) = stopped 43
-ending_at (read.Refused number) = stopped number
+ending_at (Ok None) = ended
+ending_at (Ok (Some (record_of.Sizes r))) = stopped 42
+ending_at (Ok (Some (record_of.Step r))) = stopped 43
+ending_at (Err why) = stopped (malformed_number why)
 
 -- an input says a run of a machine of sizes in range, or stops at its first record with a number
 pub data Input : Type 0 where
@@ -51,10 +51,10 @@ sized z rest =
 
 -- "42: the first record is missing or a step"
 unfoldable pub begun : Read → List ℕ → Input
-begun (read.Sizes r) rest = sized (sizes_of r) rest
-begun (read.Step r) rest = no_run 42
-begun read.End rest = no_run 42
-begun (read.Refused number) rest = no_run number
+begun (Ok (Some (record_of.Sizes r))) rest = sized (sizes_of r) rest
+begun (Ok (Some (record_of.Step r))) rest = no_run 42
+begun (Ok None) rest = no_run 42
+begun (Err why) rest = no_run (malformed_number why)
 
 unfoldable pub input_of : List ℕ → Input
 input_of bytes = begun (read_of bytes) (rest_of bytes)

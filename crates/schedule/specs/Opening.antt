@@ -1,28 +1,45 @@
--- The machine with which the run of an input begins, or the number at which it stops before any step.
-use Rattle.std.specs.Prelude.{ℕ, List}
+-- The machine with which the run of an input begins, or why it stops before any step.
+use Rattle.std.specs.Prelude.{ℕ, List, Result, Ok, Err, Some, None}
 use Rattle.entries.specs.declared.Sizes.{Sizes}
-use Rattle.machine.specs.declared.Started.{Started}
+use Rattle.machine.specs.declared.Verdict.{Verdict}
 use Rattle.machine.specs.declared.Verdict.TheVariants as verdict
 use Rattle.machine.specs.Fresh.{fresh_of, blank, start_of}
-use Rattle.records.specs.declared.Read.{Read}
-use Rattle.records.specs.declared.Read.TheVariants as read
-use Rattle.records.specs.Reading.{read_of}
+use Rattle.records.specs.declared.SizesRecord.{SizesRecord}
+use Rattle.records.specs.declared.Record.TheVariants as record_of
+use Rattle.records.specs.Reading.{Read, read_of}
+use Rattle.schedule.specs.declared.Opened.{Opened}
+use Rattle.schedule.specs.declared.Stop.{Stop}
+use Rattle.schedule.specs.declared.Stop.TheVariants as stop
 use Rattle.schedule.specs.Said.{sizes_of}
 
 -- a fresh machine of sizes in range
-unfoldable pub opened : Sizes → Started
-opened z = record { state = fresh_of z; verdict = verdict.Good }
+unfoldable pub opened : Sizes → Opened
+opened z = record { state = fresh_of z; verdict = Ok tt }
 
 -- no machine
-unfoldable pub unopened : ℕ → Started
-unopened number = record { state = blank; verdict = verdict.Refused number }
+unfoldable pub unopened : Stop → Opened
+unopened why = record { state = blank; verdict = Err why }
 
--- "20 at the first record" is what starting answers. "42: the first record is missing or a step". "A record's own 40, 41 or 44" is its own.
-unfoldable pub opened_by : Read → Started
-opened_by (read.Sizes r) = start_of (sizes_of r)
-opened_by (read.Step r) = unopened 42
-opened_by read.End = unopened 42
-opened_by (read.Refused number) = unopened number
+-- The sizes that a run begins with. "42: the first record is missing or a step". "A record's own 40, 41 or 44" is its own.
+unfoldable pub first_at : Read → Result SizesRecord Stop
+first_at (Ok (Some (record_of.Sizes r))) = Ok r
+first_at (Ok (Some (record_of.Step r))) = Err stop.SizesNotFirst
+first_at (Ok None) = Err stop.SizesNotFirst
+first_at (Err why) = Err (stop.Malformed why)
 
-unfoldable pub opened_of : List ℕ → Started
-opened_of input = opened_by (read_of input)
+unfoldable pub first_of : List ℕ → Result SizesRecord Stop
+first_of input = first_at (read_of input)
+
+-- "20 at the first record" is what starting answers
+unfoldable pub verdict_of : Verdict → Result (Unit {0}) Stop
+verdict_of verdict.Good = Ok tt
+verdict_of (verdict.Refused number) = Err (stop.Refused number)
+
+unfoldable pub opened_by : Result SizesRecord Stop → Opened
+opened_by (Ok r) =
+    let started = start_of (sizes_of r) in
+    record { state = started.state; verdict = verdict_of started.verdict }
+opened_by (Err why) = unopened why
+
+unfoldable pub opened_of : List ℕ → Opened
+opened_of input = opened_by (first_of input)

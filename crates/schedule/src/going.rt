@@ -3,12 +3,12 @@ ghost use Rattle.std.specs.Prelude.{◌≡◌};
 ghost use Rattle.schedule.specs.Said.{call_of};
 ghost use Rattle.schedule.specs.Going.{next_of};
 
-use crate::Next;
+use crate::Stop;
 use machine::Call;
 use records::reading::read;
-use records::{Read, StepRecord};
+use records::{Record, StepRecord};
 
-// What a step record says, to the machine.
+// What a step record says, to the machine. No `From`: both types are other crates'.
 fn call_of(step: StepRecord) -> Call
     ensures { result ≡ call_of step }
 {
@@ -21,21 +21,16 @@ fn call_of(step: StepRecord) -> Call
     }
 }
 
-// What stands at the front of the bytes that are left, after so many steps.
+// What stands at the front of the bytes that are left, after so many steps: a call for the machine, nothing at the end of the input, or why
+// the run stops.
 #[tactic(auto, unfolding(crate::specs::Going::next_of, crate::specs::Going::next_at))]
-pub fn next(left: &[u8], steps: u32) -> Next
+pub fn next(left: &[u8], steps: u32) -> Result<Option<Call>, Stop>
     ensures { result ≡ next_of steps left.now }
 {
-    let found = read(left);
-    match found {
-        Read::Sizes(_) => Next::Stop(42),
-        Read::Step(step) => {
-            if steps < 6000 {
-                return Next::Call(call_of(step));
-            }
-            Next::Stop(43)
-        }
-        Read::End => Next::End,
-        Read::Refused(number) => Next::Stop(number),
+    match read(left)? {
+        Some(Record::Step(_)) if steps >= 6000 => Err(Stop::TooManySteps),
+        Some(Record::Step(step)) => Ok(Some(call_of(step))),
+        Some(Record::Sizes(_)) => Err(Stop::SizesNotFirst),
+        None => Ok(None),
     }
 }

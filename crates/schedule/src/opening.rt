@@ -1,35 +1,42 @@
 // The first record of a run.
 ghost use Rattle.std.specs.Prelude.{◌≡◌};
-ghost use Rattle.machine.specs.Fresh.{blank};
-ghost use Rattle.machine.specs.declared.Verdict.TheVariants as verdict;
-ghost use Rattle.schedule.specs.Opening.{opened_of};
+ghost use Rattle.schedule.specs.Opening.{first_of, opened_of};
 
-use machine::{Started, Verdict, start};
-use records::Read;
+use crate::{Opened, Stop};
+use machine::{Verdict, start};
 use records::reading::read;
+use records::{Record, SizesRecord};
 
-// The blank state, and the number at which the run stops before its first step.
-fn stopped(number: u8) -> Started
-    ensures { result ≡ record { state = blank; verdict = verdict.Refused number } }
+// The sizes that the input starts with.
+#[tactic(auto, unfolding(crate::specs::Opening::first_of, crate::specs::Opening::first_at))]
+fn first(input: &[u8]) -> Result<SizesRecord, Stop>
+    ensures { result ≡ first_of input.now }
 {
-    // no size is in range here, so this is the blank state
-    let none = start(0, 0, 0, 0);
-    let state = none.state;
-    Started {
-        state,
-        verdict: Verdict::Refused(number),
+    match read(input)? {
+        Some(Record::Sizes(sizes)) => Ok(sizes),
+        Some(Record::Step(_)) | None => Err(Stop::SizesNotFirst),
     }
 }
 
 // The machine of the sizes that the input starts with, or why there is none.
-pub fn open(input: &[u8]) -> Started
+pub fn open(input: &[u8]) -> Opened
     ensures { result ≡ opened_of input.now }
 {
-    let found = read(input);
-    match found {
-        Read::Sizes(sizes) => start(sizes.threads, sizes.slots, sizes.links, sizes.objects),
-        Read::Step(_) => stopped(42),
-        Read::End => stopped(42),
-        Read::Refused(number) => stopped(number),
+    match first(input) {
+        Ok(sizes) => {
+            let started = start(sizes.threads, sizes.slots, sizes.links, sizes.objects);
+            Opened {
+                state: started.state,
+                verdict: match started.verdict {
+                    Verdict::Good => Ok(()),
+                    Verdict::Refused(number) => Err(Stop::Refused(number)),
+                },
+            }
+        }
+        // no size is in range here, so this is the blank state
+        Err(stop) => Opened {
+            state: start(0, 0, 0, 0).state,
+            verdict: Err(stop),
+        },
     }
 }

@@ -1,5 +1,5 @@
 -- Facts of `decimal`: its last digit and the digits before it, and how many digits there are.
-use Rattle.std.specs.Prelude.{ℕ, zero, suc, ◌+◌, ◌*◌, ◌/◌, ◌%◌, ◌^◌, ◌≤◌, ◌<◌, ◌≡◌, List, [], ◌∷◌, ◌++◌, length}
+use Rattle.std.specs.Prelude.{ℕ, zero, suc, ◌+◌, ◌*◌, ◌/◌, ◌%◌, ◌^◌, ◌≤◌, ◌<◌, ◌≡◌, max, List, [], ◌∷◌, ◌++◌, length}
 use Rattle.std.proofs.Common.{sym, ap, ◌∙◌, mod-eq_of_lt, pow-suc, arith, length-append, lt-ltb, le-ltb}
 use Rattle.std.proofs.Math.Decide.{dec_le}
 use Rattle.text.specs.Decimal.{digit, digits, decimal}
@@ -57,3 +57,15 @@ one_digit n h = rw (decimal_few n h)
 
 pub more_digits : (n : ℕ) → 10 ≤ n → length (decimal n) ≡ length (decimal (n / 10)) + 1
 more_digits n h = rw (decimal_many n h) (length-append (decimal (n / 10)) (digit (n % 10) ∷ []))
+
+powers : (k n : ℕ) → 10 ^ k ≤ n → n < 10 * 10 ^ k → length (decimal n) ≡ k + 1
+powers zero n least most = one_digit n (omega arith)
+powers (suc k) n least most =
+    let power : 10 ^ suc k ≡ 10 ^ k * 10 = pow-suc 10 k in
+    let big : 10 ≤ n = omega arith in
+    omega (arith, more_digits n big, powers k (n / 10) (omega arith) (omega arith))
+
+-- as many as there are powers of ten not above the number, 0 taken as 1
+pub digits_by_powers : (k n : ℕ) → 10 ^ k ≤ max n 1 → max n 1 < 10 * 10 ^ k → length (decimal n) ≡ k + 1
+digits_by_powers k zero least most = one_digit 0 (omega arith) ∙ sym (one_digit 1 (omega arith)) ∙ powers k 1 least most
+digits_by_powers k (suc n) least most = powers k (suc n) (omega arith) (omega arith)

@@ -3,6 +3,7 @@ pub mod Decimal
 pub mod Fields
 pub mod Words
 pub mod Written
+pub mod Paged
 -- laws of these, for the proofs of whoever writes text: nothing in them has to be believed
 pub mod Digits
 pub mod Appending
@@ -10,3 +11,4 @@ pub mod Nothing
 pub mod Joining
 pub mod Parts
 pub mod Putting
+pub mod Paging

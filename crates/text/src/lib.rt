@@ -1,9 +1,9 @@
-// Text put into a lent buffer: bytes, a line of numbers, a template with numbers filled in. Each writes at a place, leaves every other
-// byte as it is, and answers the place after what it wrote; where there is too little room it does nothing, and answers the place itself.
+// Text put into a lent buffer: bytes, a line of numbers, a template with numbers filled in. Each is put at the page's place, leaves every
+// other byte as it is, and moves the place behind what it wrote; where there is too little room it does nothing.
 #![tactic(auto)]
 
-pub mod bytes;
-pub mod filling;
-pub mod line;
+mod filling;
+mod line;
 mod number;
+pub mod page;
 mod size;

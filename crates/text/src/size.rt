@@ -3,17 +3,11 @@ ghost use Rattle.std.specs.Prelude.{◌≡◌, map, ◌≤◌, ◌<◌, length, 
 ghost use Rattle.text.specs.Decimal.{decimal};
 ghost use Rattle.text.specs.Fields.{joined};
 
-// How many digits a number has.
+// How many digits a number has, one where it is 0.
 fn digits(n: u32) -> usize
     ensures { (result ≤ 10) × (result ≡ length (decimal n)) }
 {
-    let mut count = 1;
-    let mut front = n;
-    while 10 <= front {
-        front = front / 10;
-        count += 1;
-    }
-    count
+    n.max(1).ilog10() as usize + 1
 }
 
 // Whether the line is longer than so many bytes, its digits counted.
@@ -22,14 +16,11 @@ fn counts_more(numbers: &[u32], room: usize) -> bool
     ensures { result ≡ ltb room (length (joined (map decimal numbers.now))) }
 {
     let mut left = room;
-    let mut i = 0;
-    while i < numbers.len() {
-        let size = digits(numbers[i]) + 1;
-        if left < size {
+    for &number in numbers {
+        let Some(rest) = left.checked_sub(digits(number) + 1) else {
             return true;
-        }
-        left -= size;
-        i += 1;
+        };
+        left = rest;
     }
     false
 }
@@ -40,8 +31,5 @@ pub(crate) fn is_longer(numbers: &[u32], room: usize) -> bool
     requires { 0 < length numbers.now }
     ensures { result ≡ ltb room (length (joined (map decimal numbers.now))) }
 {
-    if numbers.len() <= room / 11 {
-        return false;
-    }
-    counts_more(numbers, room)
+    room / 11 < numbers.len() && counts_more(numbers, room)
 }

@@ -1,178 +1,144 @@
 // 01's table of calls: what is refused, in 01's order, and what operations 1 to 6 do.
+use crate::place::Place;
+use crate::refusal::Refusal;
+use crate::trap::Trap;
 use crate::twin::{Stepped, Twin};
-use crate::{num, place, trap, twin};
-use plain::{Order, Task};
+use plain::{Doing, Operation, Order, Task};
 
-fn uses_slot(operation: usize) -> bool {
-    operation == 2 || operation == 3 || operation == 4 || operation == 6
+fn uses_slot(operation: Operation) -> bool {
+    matches!(
+        operation,
+        Operation::Protect | Operation::Swap | Operation::Read | Operation::Clear
+    )
 }
 
-fn uses_link(operation: usize) -> bool {
-    operation == 2 || operation == 3
-}
-
-fn uses_tag(operation: usize) -> bool {
-    operation == 1
+fn uses_link(operation: Operation) -> bool {
+    matches!(operation, Operation::Protect | Operation::Swap)
 }
 
 // 23: "an unused field is not 0".
-fn untidy(o: Order) -> bool {
-    if o.slot != 0 && !uses_slot(o.operation) {
-        return true;
-    }
-    if o.link != 0 && !uses_link(o.operation) {
-        return true;
-    }
-    o.tag != 0 && !uses_tag(o.operation)
-}
-
-// The refusals that do not depend on what the thread is doing, 21 to 25, or 0.
-fn misshapen(o: Order, threads: usize, slots: usize, links: usize) -> usize {
-    let op = o.operation;
-    if o.thread >= threads {
-        return 21;
-    }
-    if op < 1 || 7 < op {
-        return 22;
-    }
-    if untidy(o) {
-        return 23;
-    }
-    let wild = op == 3 && o.slot == 255;
-    if uses_slot(op) && o.slot >= slots && !wild {
-        return 24;
-    }
-    if uses_link(op) && o.link >= links {
-        return 25;
-    }
-    0
-}
-
-// Whether the call needs a protected slot: "swap with a slot, or read".
-fn needs_mark(o: Order) -> bool {
-    o.operation == 4 || (o.operation == 3 && o.slot != 255)
-}
-
-// The refusals of a call to an idle thread: 28, 29, 31, 30, or 0.
-fn unready(o: Order, hand: usize, marked: bool, free: usize) -> usize {
-    let op = o.operation;
-    if op == 1 && hand != 0 {
-        return 28;
-    }
-    if op == 5 && hand == 0 {
-        return 29;
-    }
-    if needs_mark(o) && !marked {
-        return 31;
-    }
-    if op == 1 && free == 0 {
-        return 30;
-    }
-    0
+fn untidy(o: Order, operation: Operation) -> bool {
+    o.slot != 0 && !uses_slot(operation)
+        || o.link != 0 && !uses_link(operation)
+        || o.tag != 0 && operation != Operation::Take
 }
 
 impl Twin {
-    // 01: "The first that applies is given, in this order, and never otherwise." 0 where the call is accepted.
-    pub fn refusal(self, o: Order) -> usize {
-        let shape = misshapen(o, self.threads, self.slots, self.links);
-        if shape != 0 {
-            return shape;
+    // The operation, or the first of the refusals that do not depend on what the thread is doing.
+    fn shaped(&self, o: Order) -> Result<Operation, Refusal> {
+        if o.thread >= self.threads {
+            return Err(Refusal::Thread);
         }
-        let busy = self.busy(o.thread);
-        if o.operation == 7 {
-            return if busy { 0 } else { 27 };
+        let operation = o.known().ok_or(Refusal::Operation)?;
+        if untidy(o, operation) {
+            return Err(Refusal::UnusedField);
         }
-        if busy {
-            return 26;
+        let wild = operation == Operation::Swap && o.slot == 255;
+        if uses_slot(operation) && o.slot >= self.slots && !wild {
+            return Err(Refusal::Slot);
         }
-        let n = self.objects;
-        let hand = place::lowest(&self.place, n, place::hand(o.thread));
-        let marked = num::flag(&self.mark, plain::position(o.thread, self.slots, o.slot));
-        let free = if o.operation == 1 {
-            place::lowest(&self.place, n, place::FREE)
-        } else {
-            0
-        };
-        unready(o, hand, marked, free)
+        if uses_link(operation) && o.link >= self.links {
+            return Err(Refusal::Link);
+        }
+        Ok(operation)
     }
 
-    // One call: "Refusals of a call return a = b = 0 and the same state."
-    pub fn step(self, o: Order) -> Stepped {
-        let refused = self.refusal(o);
-        if refused != 0 {
-            return twin::answer(self, refused, 0, 0);
-        }
-        let t = o.thread;
-        let operation = o.operation;
+    // 31: "swap with a slot, or read: slot not protected".
+    fn lacks_mark(&self, o: Order, operation: Operation) -> bool {
+        let needed = match operation {
+            Operation::Read => true,
+            Operation::Swap => o.slot != 255,
+            _ => false,
+        };
+        let position = plain::position(o.thread, self.slots, o.slot);
+        needed && !self.mark.get(position).copied().unwrap_or(false)
+    }
+
+    // The operation of a call that is accepted. 01: "The first that applies is given, in this order, and never otherwise."
+    pub fn accepts(&self, o: Order) -> Result<Operation, Refusal> {
+        let operation = self.shaped(o)?;
+        let busy = self.busy(o.thread);
         match operation {
-            1 => self.take(t, o.tag),
-            2 => self.protect(t, o.slot, o.link),
-            3 => self.swap(t, o.slot, o.link),
-            4 => self.read(t, o.slot),
-            5 => self.retire(t),
-            6 => self.clear(t, o.slot),
-            _ => self.go_on(t),
+            Operation::GoOn if !busy => Err(Refusal::Idle),
+            Operation::GoOn => Ok(operation),
+            _ if busy => Err(Refusal::NotIdle),
+            Operation::Take if self.holds(o.thread) => Err(Refusal::HandNotEmpty),
+            Operation::Retire if !self.holds(o.thread) => Err(Refusal::HandEmpty),
+            _ if self.lacks_mark(o, operation) => Err(Refusal::NotProtected),
+            Operation::Take if self.at(Place::Free) == 0 => Err(Refusal::NoneFree),
+            _ => Ok(operation),
+        }
+    }
+
+    pub fn step(self, o: Order) -> Stepped {
+        let t = o.thread;
+        match self.accepts(o) {
+            Err(refusal) => self.refused(refusal),
+            Ok(Operation::Take) => self.take(t, o.tag),
+            Ok(Operation::Protect) => self.protect(t, o.slot, o.link),
+            Ok(Operation::Swap) => self.swap(t, o.slot, o.link),
+            Ok(Operation::Read) => self.read(t, o.slot),
+            Ok(Operation::Retire) => self.retire(t),
+            Ok(Operation::Clear) => self.clear(t, o.slot),
+            Ok(Operation::GoOn) => self.go_on(t),
         }
     }
 
     fn take(mut self, t: usize, tag: usize) -> Stepped {
-        let object = place::lowest(&self.place, self.objects, place::FREE);
-        place::put(&mut self.place, object, place::hand(t));
-        num::set_tag(&mut self.tag, object, tag);
-        twin::answer(self, 1, object, 0)
+        let object = self.at(Place::Free);
+        self.put(object, Place::hand(t));
+        self.set_tag(object, tag);
+        self.answer(1, object, 0)
     }
 
     fn protect(self, t: usize, slot: usize, link: usize) -> Stepped {
-        let seen = place::lowest(&self.place, self.objects, place::link(link));
+        let seen = self.at(Place::link(link));
         let next = Task {
-            doing: plain::LOADED,
-            back: false,
+            doing: Doing::Loaded,
             slot,
             link,
             seen,
-            position: 0,
+            ..Task::IDLE
         };
         self.becomes(t, next, 2, seen, 0)
     }
 
     fn swap(mut self, t: usize, slot: usize, link: usize) -> Stepped {
-        let n = self.objects;
-        let there = place::lowest(&self.place, n, place::link(link));
-        let held = num::at(&self.hazard, plain::position(t, self.slots, slot));
-        let wanted = if slot == 255 { 0 } else { held };
+        let there = self.at(Place::link(link));
+        let wanted = match slot {
+            255 => 0,
+            _ => self.hazard_of(t, slot),
+        };
         if there != wanted {
-            return twin::answer(self, 7, 0, 0);
+            return self.answer(7, 0, 0);
         }
-        let mine = place::lowest(&self.place, n, place::hand(t));
-        place::put(&mut self.place, there, place::hand(t));
-        place::put(&mut self.place, mine, place::link(link));
-        twin::answer(self, 6, there, 0)
+        let mine = self.at(Place::hand(t));
+        self.put(there, Place::hand(t));
+        self.put(mine, Place::link(link));
+        self.answer(6, there, 0)
     }
 
     fn read(self, t: usize, slot: usize) -> Stepped {
-        let object = num::at(&self.hazard, plain::position(t, self.slots, slot));
-        let tag = num::tag(&self.tag, object);
-        twin::answer(self, 8, tag, 0)
+        let tag = self.tag_of(self.hazard_of(t, slot));
+        self.answer(8, tag, 0)
     }
 
     fn retire(mut self, t: usize) -> Stepped {
-        let object = place::lowest(&self.place, self.objects, place::hand(t));
-        place::put(&mut self.place, object, place::carried(t));
-        let next = plain::scanning(plain::idle(), plain::LOOK, 0);
+        let object = self.at(Place::hand(t));
+        self.put(object, Place::carried(t));
+        let next = Task::IDLE.scanning(Doing::Look, 0);
         self.becomes(t, next, 2, object, 0)
     }
 
-    fn clear(self, t: usize, slot: usize) -> Stepped {
+    fn clear(mut self, t: usize, slot: usize) -> Stepped {
         let p = plain::position(t, self.slots, slot);
-        let out = self.announce(t, p, 0, self.trap == trap::DRAIN_EARLY);
+        let early = self.trap == Some(Trap::DrainEarly);
+        self.announce(t, p, 0, early);
         let next = Task {
-            doing: plain::DRAINING,
-            back: false,
+            doing: Doing::Draining,
             slot,
-            link: 0,
-            seen: 0,
-            position: 0,
+            ..Task::IDLE
         };
-        out.becomes(t, next, 2, 0, 0)
+        self.becomes(t, next, 2, 0, 0)
     }
 }

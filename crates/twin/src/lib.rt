@@ -7,10 +7,12 @@
 mod calls;
 mod exchange;
 mod go_on;
-mod num;
 mod place;
+mod refusal;
 mod trap;
 mod twin;
 
 pub use exchange::of;
-pub use twin::{Stepped, Twin, start};
+pub use refusal::Refusal;
+pub use trap::Trap;
+pub use twin::{Counts, Started, Stepped, Twin, start};

@@ -1,16 +1,19 @@
-use crate::{go_on, num, place};
-use plain::{Said, Task};
+use crate::place::Place;
+use crate::refusal::Refusal;
+use crate::trap::Trap;
+use plain::{Doing, Said, Task};
 
-// `trap` is 0, or the number of the trap that this twin falls into (trap.rt). Object o has its place at o and its tag at
-// o - 1. What Look and Swap carry is not read off the task: it is the object whose place is "carried by this thread".
+// `trap` is the trap that this twin falls into. Object o has its place and its tag at o - 1. What Look and Swap carry is not read
+// off the task: it is the object whose place is "carried by this thread". The rows are those of a `Raw`, so that they are copied
+// from it and to it whole.
 #[derive(Clone, Copy)]
 pub struct Twin {
-    pub trap: usize,
+    pub trap: Option<Trap>,
     pub threads: usize,
     pub slots: usize,
     pub links: usize,
     pub objects: usize,
-    pub place: [u8; 241],
+    pub place: [Place; 240],
     pub tag: [u32; 240],
     pub hazard: [u8; 32],
     pub mark: [bool; 32],
@@ -23,147 +26,204 @@ pub struct Stepped {
     pub said: Said,
 }
 
-pub fn blank() -> Twin {
-    let rest = plain::idle();
-    Twin {
-        trap: 0,
-        threads: 0,
-        slots: 0,
-        links: 0,
-        objects: 0,
-        place: [0; 241],
-        tag: [0; 240],
-        hazard: [0; 32],
-        mark: [false; 32],
-        task: [rest; 8],
-    }
+#[derive(Clone, Copy)]
+pub struct Started {
+    pub twin: Twin,
+    pub refused: Option<Refusal>,
 }
 
-pub fn answer(twin: Twin, number: usize, a: usize, b: usize) -> Stepped {
-    let said = Said { number, a, b };
-    Stepped { twin, said }
+// How many objects are in the places of each kind.
+#[derive(Clone, Copy, Debug, PartialEq, Eq)]
+pub struct Counts {
+    pub free: usize,
+    pub links: usize,
+    pub hands: usize,
+    pub handovers: usize,
+    pub carried: usize,
 }
 
 // 01: sizes "T threads 1 to 8, H hazard slots per thread 1 to 4, L links 1 to 16, N objects 1 to 240"; any other is refused 20
 // and gives the blank state.
-pub fn start(threads: usize, slots: usize, links: usize, objects: usize) -> Stepped {
-    let none = blank();
-    if threads < 1 || 8 < threads || slots < 1 || 4 < slots {
-        return answer(none, 20, 0, 0);
+pub fn start(threads: usize, slots: usize, links: usize, objects: usize) -> Started {
+    let good = (1..=8).contains(&threads)
+        && (1..=4).contains(&slots)
+        && (1..=16).contains(&links)
+        && (1..=240).contains(&objects);
+    if !good {
+        return Started {
+            twin: Twin::BLANK,
+            refused: Some(Refusal::Sizes),
+        };
     }
-    if links < 1 || 16 < links || objects < 1 || 240 < objects {
-        return answer(none, 20, 0, 0);
+    let mut fresh = Twin {
+        threads,
+        slots,
+        links,
+        objects,
+        ..Twin::BLANK
+    };
+    for place in fresh.place.iter_mut().take(objects) {
+        *place = Place::Free;
     }
-    let mut fresh = none;
-    all_free(&mut fresh.place, objects);
-    fresh.threads = threads;
-    fresh.slots = slots;
-    fresh.links = links;
-    fresh.objects = objects;
-    answer(fresh, 0, 0, 0)
+    Started {
+        twin: fresh,
+        refused: None,
+    }
 }
 
-// How many of n objects are in places of each kind.
-fn kinds(places: &[u8; 241], n: usize) -> [u8; 8] {
-    let mut counts = [0; 8];
-    for o in 1..241 {
-        if n < o {
-            return counts;
-        }
-        let kind = place::kind(places[o]);
-        if kind < 8 {
-            counts[kind] = more(counts[kind]);
-        }
-    }
-    counts
-}
-
-fn more(n: u8) -> u8 {
-    if n < 255 { n + 1 } else { n }
-}
-
-fn all_free(places: &mut [u8; 241], objects: usize) {
-    for o in 1..241 {
-        if o <= objects {
-            places[o] = place::FREE;
-        }
-    }
+// An object's entry in a row.
+fn entry<T>(row: &mut [T], object: usize) -> Option<&mut T> {
+    row.get_mut(object.checked_sub(1)?)
 }
 
 impl Twin {
-    pub fn in_trap(mut self, trap: usize) -> Twin {
+    pub const BLANK: Twin = Twin {
+        trap: None,
+        threads: 0,
+        slots: 0,
+        links: 0,
+        objects: 0,
+        place: [Place::Nowhere; 240],
+        tag: [0; 240],
+        hazard: [0; 32],
+        mark: [false; 32],
+        task: [Task::IDLE; 8],
+    };
+
+    pub fn in_trap(mut self, trap: Option<Trap>) -> Twin {
         self.trap = trap;
         self
     }
 
-    // How many objects are in places of each kind, by `place::kind`.
-    pub fn counts(self) -> [u8; 8] {
-        kinds(&self.place, self.objects)
+    pub fn answer(self, number: usize, a: usize, b: usize) -> Stepped {
+        let said = Said { number, a, b };
+        Stepped { twin: self, said }
+    }
+
+    // "Refusals of a call return a = b = 0 and the same state."
+    pub fn refused(self, refusal: Refusal) -> Stepped {
+        self.answer(refusal.number(), 0, 0)
+    }
+
+    // The lowest-numbered object at a place. 01: "0 means no object".
+    pub fn at(&self, wanted: Place) -> usize {
+        let objects = self.place.iter().take(self.objects);
+        match objects.copied().position(|place| place == wanted) {
+            Some(i) => i + 1,
+            None => 0,
+        }
+    }
+
+    // An object goes to a place; object 0 is none.
+    pub fn put(&mut self, object: usize, place: Place) {
+        if let Some(there) = entry(&mut self.place, object) {
+            *there = place;
+        }
+    }
+
+    // An object's tag, and that tag anew.
+    pub fn tag_of(&self, object: usize) -> usize {
+        match object.checked_sub(1) {
+            Some(i) => self.tag.get(i).copied().unwrap_or(0) as usize,
+            None => 0,
+        }
+    }
+
+    pub fn set_tag(&mut self, object: usize, tag: usize) {
+        if let Some(there) = entry(&mut self.tag, object) {
+            *there = plain::word(tag);
+        }
+    }
+
+    fn count<F: Fn(Place) -> bool>(&self, is: F) -> usize
+        requires { F.IsAlwaysCallable is }
+    {
+        self.place
+            .iter()
+            .take(self.objects)
+            .filter(|&&place| is(place))
+            .count()
+    }
+
+    pub fn counts(&self) -> Counts {
+        Counts {
+            free: self.count(|place| place == Place::Free),
+            links: self.count(|place| matches!(place, Place::Link(_))),
+            hands: self.count(|place| matches!(place, Place::Hand(_))),
+            handovers: self.count(|place| matches!(place, Place::Handover(_))),
+            carried: self.count(|place| matches!(place, Place::Carried(_))),
+        }
     }
 
     // Whether a thread's hand is full.
-    pub fn holds(self, t: usize) -> bool {
-        place::lowest(&self.place, self.objects, place::hand(t)) != 0
+    pub fn holds(&self, t: usize) -> bool {
+        self.at(Place::hand(t)) != 0
     }
 
     // Whether what a thread has in its hand is the hazard of a slot.
-    pub fn hand_in_hazard(self, t: usize) -> bool {
-        let object = place::lowest(&self.place, self.objects, place::hand(t));
-        if object == 0 {
-            return false;
-        }
-        num::at(&self.hazard, 0) == object || go_on::later(&self.hazard, object, 0)
+    pub fn hand_in_hazard(&self, t: usize) -> bool {
+        let object = self.at(Place::hand(t));
+        object != 0
+            && self
+                .hazard
+                .iter()
+                .any(|&hazard| usize::from(hazard) == object)
     }
 
-    pub fn in_link(self, l: usize) -> usize {
-        place::lowest(&self.place, self.objects, place::link(l))
+    pub fn in_link(&self, l: usize) -> usize {
+        self.at(Place::link(l))
     }
 
-    pub fn hazard_of(self, t: usize, slot: usize) -> usize {
-        num::at(&self.hazard, plain::position(t, self.slots, slot))
+    // The hazard at a position.
+    pub fn hazard_at(&self, p: usize) -> usize {
+        self.hazard.get(p).copied().map_or(0, usize::from)
+    }
+
+    pub fn hazard_of(&self, t: usize, slot: usize) -> usize {
+        self.hazard_at(plain::position(t, self.slots, slot))
     }
 
     // What a thread is in the middle of, but for what it carries.
-    pub fn task_of(self, t: usize) -> Task {
-        if t < 8 { self.task[t] } else { plain::idle() }
+    pub fn task_of(&self, t: usize) -> Task {
+        self.task.get(t).copied().unwrap_or(Task::IDLE)
     }
 
-    pub fn busy(self, t: usize) -> bool {
-        let task = self.task_of(t);
-        task.doing != plain::IDLE
+    pub fn busy(&self, t: usize) -> bool {
+        self.task_of(t).doing != Doing::Idle
     }
 
     // A thread is in the middle of something else, with an answer.
-    pub fn becomes(mut self, t: usize, task: Task, number: usize, a: usize, b: usize) -> Stepped {
-        if t < 8 {
-            self.task[t] = task;
+    pub fn becomes(mut self, t: usize, next: Task, number: usize, a: usize, b: usize) -> Stepped {
+        if let Some(task) = self.task.get_mut(t) {
+            *task = next;
         }
-        answer(self, number, a, b)
+        self.answer(number, a, b)
+    }
+
+    pub fn set_hazard(&mut self, p: usize, object: usize) {
+        if let Some(hazard) = self.hazard.get_mut(p) {
+            *hazard = plain::byte(object);
+        }
+    }
+
+    pub fn set_mark(&mut self, p: usize, on: bool) {
+        if let Some(mark) = self.mark.get_mut(p) {
+            *mark = on;
+        }
     }
 
     // A hazard anew, and its mark off. A trap that is early takes the handover here, and leaves the hazard to the drain.
-    pub fn announce(mut self, t: usize, p: usize, object: usize, early: bool) -> Twin {
+    pub fn announce(&mut self, t: usize, p: usize, object: usize, early: bool) {
         if early {
-            let left = place::lowest(&self.place, self.objects, place::handover(p));
-            place::put(&mut self.place, left, place::carried(t));
-        } else if p < 32 {
-            self.hazard[p] = plain::byte(object);
+            self.put(self.at(Place::handover(p)), Place::carried(t));
+        } else {
+            self.set_hazard(p, object);
         }
-        if p < 32 {
-            self.mark[p] = false;
-        }
-        self
+        self.set_mark(p, false);
     }
 
     // T × (H + 1), the most objects that can wait to be freed.
-    pub fn bound(self) -> usize {
-        let all = plain::position(self.threads, self.slots, 0);
-        let threads = self.threads;
-        if threads < 9 {
-            if all < 33 {
-                return all + threads;
-            }
-        }
-        0
+    pub fn bound(&self) -> usize {
+        plain::position(self.threads, self.slots, 0).saturating_add(self.threads)
     }
 }

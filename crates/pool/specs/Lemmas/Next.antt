@@ -1,8 +1,9 @@
 -- The object that is handed out next: it is free, and there is one exactly when some object is free.
-use Rattle.std.specs.Prelude.{ℕ, zero, suc, ◌+◌, ◌≡◌, refl, Bool, true, false, List, [], ◌∷◌, get_or}
-use Rattle.std.proofs.Common.{arith, ◌∙◌, subst}
+use Rattle.std.specs.Prelude.{ℕ, zero, suc, ◌+◌, ◌≡◌, refl, Bool, true, false, List, [], ◌∷◌, get_or, eqb, is_none}
+use Rattle.std.proofs.Common.{arith, sym, ◌∙◌, subst}
+use Rattle.std.proofs.Math.Dec.{eqb-suc-zero}
 use Rattle.pool.specs.declared.Pool.{Pool}
-use Rattle.pool.specs.Pool.{is_free, first_on, next_of}
+use Rattle.pool.specs.Pool.{is_free, first_on, object_of, next_of}
 
 -- where the first mark that is on stands
 record First (k : ℕ) (marks : List Bool) : Type 0 where
@@ -36,3 +37,8 @@ pub none_is_free : (pool : Pool) → next_of pool ≡ 0 → (o : ℕ) → is_fre
 unfolding next_of is_free
 none_is_free pool none zero = refl
 none_is_free pool none (suc k) = none_found 0 pool.marks none k
+
+-- no object is handed out exactly where its number is 0
+pub none_is_zero : (n : ℕ) → is_none (object_of n) ≡ eqb n 0
+none_is_zero zero = refl
+none_is_zero (suc n) = sym (eqb-suc-zero n)

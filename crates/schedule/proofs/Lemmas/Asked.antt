@@ -1,13 +1,13 @@
 -- One question after the other finds the calls that the bytes say, and how they end.
-use Rattle.std.specs.Prelude.{ℕ, zero, suc, ◌+◌, ◌≡◌, refl, true, false, List, [], ltb}
+use Rattle.std.specs.Prelude.{ℕ, zero, suc, ◌+◌, ◌≡◌, refl, true, false, List, [], ltb, Ok, Err, Some, None}
 use Rattle.std.proofs.Common.{arith, lt-ltb, le-ltb}
 use Rattle.machine.specs.declared.Call.{Call}
-use Rattle.records.specs.declared.Read.{Read}
-use Rattle.records.specs.declared.Read.TheVariants as read
-use Rattle.records.specs.Reading.{read_of}
+use Rattle.records.specs.declared.Record.TheVariants as record_of
+use Rattle.records.specs.Reading.{Read, read_of}
 use Rattle.records.specs.Rest.{rest_of}
 use Rattle.schedule.specs.Input.{calls_at, calls_up_to, after, ending_at}
 use Rattle.schedule.specs.Going.{next_at, next_of}
+use Rattle.schedule.specs.Stopping.{stop_number}
 use Rattle.schedule.specs.Asked.{Found, found_at, found_from, found_of, found_in}
 
 -- no call
@@ -17,19 +17,19 @@ alone bytes found e = rw e
 
 -- a 6,001st step is no call
 at_limit : (steps : ℕ) → ltb steps 6000 ≡ false → (more : Found) (bytes : List ℕ) (found : Read) → read_of bytes ≡ found → found_at (next_at steps found) more bytes ≡ found_in bytes []
-unfolding next_at found_at ending_at
-at_limit steps full more bytes (read.Sizes r) e = alone bytes (read.Sizes r) e
-at_limit steps full more bytes (read.Step r) e = rw full (alone bytes (read.Step r) e)
-at_limit steps full more bytes read.End e = alone bytes read.End e
-at_limit steps full more bytes (read.Refused number) e = alone bytes (read.Refused number) e
+unfolding next_at found_at ending_at stop_number
+at_limit steps full more bytes (Ok (Some (record_of.Sizes r))) e = alone bytes (Ok (Some (record_of.Sizes r))) e
+at_limit steps full more bytes (Ok (Some (record_of.Step r))) e = rw full (alone bytes (Ok (Some (record_of.Step r))) e)
+at_limit steps full more bytes (Ok None) e = alone bytes (Ok None) e
+at_limit steps full more bytes (Err why) e = alone bytes (Err why) e
 
 module _ (steps : ℕ) (room : ltb steps 6000 ≡ true) (bytes : List ℕ) (calls : List Call) where
   at_found : (found : Read) → read_of bytes ≡ found → found_at (next_at steps found) (found_in (rest_of bytes) calls) bytes ≡ found_in bytes (calls_at found calls)
-  unfolding next_at found_at calls_at found_in after ending_at
-  at_found (read.Sizes r) e = alone bytes (read.Sizes r) e
-  at_found (read.Step r) e = rw room
-  at_found read.End e = alone bytes read.End e
-  at_found (read.Refused number) e = alone bytes (read.Refused number) e
+  unfolding next_at found_at calls_at found_in after ending_at stop_number
+  at_found (Ok (Some (record_of.Sizes r))) e = alone bytes (Ok (Some (record_of.Sizes r))) e
+  at_found (Ok (Some (record_of.Step r))) e = rw room
+  at_found (Ok None) e = alone bytes (Ok None) e
+  at_found (Err why) e = alone bytes (Err why) e
 
 from : (most steps : ℕ) → steps + most ≡ 6000 → (bytes : List ℕ) → found_from (suc most) steps bytes ≡ found_in bytes (calls_up_to most bytes)
 unfolding found_from calls_up_to next_of

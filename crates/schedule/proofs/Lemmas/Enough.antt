@@ -1,5 +1,5 @@
 -- Bytes past those that a run can look at make no difference to what an input says.
-use Rattle.std.specs.Prelude.{ℕ, zero, suc, ◌+◌, ◌*◌, ◌≤◌, ◌<◌, ◌≡◌, length, get_or, take, drop}
+use Rattle.std.specs.Prelude.{ℕ, zero, suc, ◌+◌, ◌*◌, ◌≤◌, ◌<◌, ◌≡◌, length, get_or, take, drop, Ok, Err, Some, None}
 use Rattle.std.proofs.Math.Path.{refl}
 use Rattle.std.proofs.Common.{sym, ap, ◌∙◌, zero-add, suc-add, arith, take_all, get_or-take, length-take-le}
 use Rattle.std.proofs.Math.Bool.{cond}
@@ -10,10 +10,9 @@ use borrow.Author.Tests.{ne_eqb, le-ltb}
 use Rattle.entries.specs.declared.Sizes as entries
 use Rattle.entries.specs.Sizes.{in_range}
 use Rattle.machine.specs.declared.Call.{Call}
-use Rattle.records.specs.declared.Read.{Read}
-use Rattle.records.specs.declared.Read.TheVariants.{Sizes, Step, End, Refused}
+use Rattle.records.specs.declared.Record.TheVariants.{Sizes, Step}
 use Rattle.records.specs.Marks.{marked}
-use Rattle.records.specs.Reading.{sizes_at, step_at, zeros_at_end, read_of}
+use Rattle.records.specs.Reading.{Read, sizes_at, step_at, zeros_at_end, read_of}
 use Rattle.records.specs.Rest.{rest_after, rest_of}
 use Rattle.schedule.specs.Said.{sizes_of, call_of}
 use Rattle.schedule.specs.Input.{calls_at, calls_up_to, after, ending_at, run, no_run, sized, begun, input_of, input_for_all}
@@ -70,17 +69,17 @@ Ran most bytes = (calls_up_to most bytes, read_of (after (length (calls_up_to mo
 
 -- by the first record; `more` has those after a step
 abbrev ran_at : Read → List Call × Read → List Call × Read
-ran_at (Step r) more = (call_of r ∷ more.0, more.1)
-ran_at (Sizes r) more = ([], Sizes r)
-ran_at End more = ([], End)
-ran_at (Refused number) more = ([], Refused number)
+ran_at (Ok (Some (Step r))) more = (call_of r ∷ more.0, more.1)
+ran_at (Ok (Some (Sizes r))) more = ([], Ok (Some (Sizes r)))
+ran_at (Ok None) more = ([], Ok None)
+ran_at (Err why) more = ([], Err why)
 
 ran_at_lem : (bytes : List ℕ) (calls : List Call) (found : Read) → read_of bytes ≡ found → ◌≡◌ {A = List Call × Read} (calls_at found calls, read_of (after (length (calls_at found calls)) bytes)) (ran_at found (calls, read_of (after (length calls) (rest_of bytes))))
 unfolding calls_at after
-ran_at_lem bytes calls (Sizes r) e = rw e
-ran_at_lem bytes calls (Step r) e = refl
-ran_at_lem bytes calls End e = rw e
-ran_at_lem bytes calls (Refused number) e = rw e
+ran_at_lem bytes calls (Ok (Some (Sizes r))) e = rw e
+ran_at_lem bytes calls (Ok (Some (Step r))) e = refl
+ran_at_lem bytes calls (Ok None) e = rw e
+ran_at_lem bytes calls (Err why) e = rw e
 
 ran_next : (most : ℕ) (bytes : List ℕ) (found : Read) → read_of bytes ≡ found → Ran (suc most) bytes ≡ ran_at found (Ran most (rest_of bytes))
 unfolding calls_up_to
@@ -88,10 +87,10 @@ ran_next most bytes found e = rw e (ran_at_lem bytes (calls_up_to most (rest_of 
 
 at_same : (n : ℕ) (bytes : List ℕ) (more : List Call × Read) (other : List ℕ → List Call × Read) (found : Read) → read_of bytes ≡ found → other (take n (rest_of bytes)) ≡ more → ran_at found (other (rest_of (take (10 + n) bytes))) ≡ ran_at found more
 unfolding rest_after
-at_same n bytes more other (Sizes r) e h = refl
-at_same n bytes more other (Step r) e h = rw (rest_same n bytes (Step r) e (λ l. refl), h)
-at_same n bytes more other End e h = refl
-at_same n bytes more other (Refused number) e h = refl
+at_same n bytes more other (Ok (Some (Sizes r))) e h = refl
+at_same n bytes more other (Ok (Some (Step r))) e h = rw (rest_same n bytes (Ok (Some (Step r))) e (λ l. refl), h)
+at_same n bytes more other (Ok None) e h = refl
+at_same n bytes more other (Err why) e h = refl
 
 ran_same : (most : ℕ) (bytes : List ℕ) → Ran most (take (10 * suc most) bytes) ≡ Ran most bytes
 unfolding calls_up_to after
@@ -113,10 +112,10 @@ module _ (n : ℕ) (all : n ≡ 10 * 6001) where
 
   begun_same : (input : List ℕ) (found : Read) → read_of input ≡ found → begun found (rest_of (take (10 + n) input)) ≡ begun found (rest_of input)
   unfolding begun rest_after
-  begun_same input (Sizes r) e = rw (rest_same n input (Sizes r) e (λ l. refl)) (sized_same (sizes_of r) (rest_of input))
-  begun_same input (Step r) e = refl
-  begun_same input End e = refl
-  begun_same input (Refused number) e = refl
+  begun_same input (Ok (Some (Sizes r))) e = rw (rest_same n input (Ok (Some (Sizes r))) e (λ l. refl)) (sized_same (sizes_of r) (rest_of input))
+  begun_same input (Ok (Some (Step r))) e = refl
+  begun_same input (Ok None) e = refl
+  begun_same input (Err why) e = refl
 
   input_same : (input : List ℕ) → input_of (take (10 + n) input) ≡ input_of input
   unfolding input_of

@@ -62,9 +62,9 @@ unfolding sound pool_good
 decides s passed tags long =
     rw (from_shape s passed.shape, passed.sizes, passed.links, passed.threads, passed.slots, tags, eq-eqb _ _ long, once-each s passed)
 
-pub returns-then-not-sizes_good : goal.returns-then-not-sizes_good
+pub returns-then-not-are_good : goal.returns-then-not-are_good
 unfolding sound
-returns-then-not-sizes_good c = rw (sym c.sizes_good.ensures ∙ c.if-not-sizes_good.true, and-false)
+returns-then-not-are_good c = rw (sym c.are_good.ensures ∙ c.if-not-are_good.true, and-false)
 
 pub returns-then-not-links_good : goal.returns-then-not-links_good
 unfolding sound
@@ -91,7 +91,7 @@ returns c =
     (decides s
     (record {
       shape = record { links = c.requires.0; threads = search rules; slots = search rules; tags = c.requires.2 };
-      sizes = sym c.sizes_good.ensures ∙ c.if-not-sizes_good.false;
+      sizes = sym c.are_good.ensures ∙ c.if-not-are_good.false;
       links = sym c.links_good.ensures ∙ c.if-not-links_good.false;
       threads = sym c.threads_good.ensures ∙ c.if-not-threads_good.false;
       slots = sym c.slots_good.ensures ∙ c.if-not-slots_good.false;

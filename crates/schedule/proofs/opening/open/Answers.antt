@@ -1,19 +1,23 @@
--- `schedule::opening::open` meets its contract: each arm knows what was read, and answers what `opened_by` has for it.
-use Rattle.schedule.specs.Opening.{unopened, opened_by, opened_of}
+-- `schedule::opening::open` meets its contract. Sizes of 0 are out of range, so starting with them gives the blank state.
+use mathlib.Core.Path.{◌≡◌}
+use Rattle.entries.specs.Sizes.{in_range}
+use Rattle.machine.specs.declared.Started.{Started}
+use Rattle.machine.specs.Fresh.{blank, start_of}
+use Rattle.schedule.specs.Opening.{unopened, verdict_of, opened_by, opened_of}
 use Rattle.schedule.proofs.opening.open.Goals as goal
 
-pub returns-in-Sizes : goal.returns-in-Sizes
-unfolding opened_of opened_by
-returns-in-Sizes c = rw (← c.read-found.ensures, c.in-Sizes.is) c.start.ensures
+none-started : (s : Started) → s ≡ start_of (record { threads = 0; slots = 0; links = 0; objects = 0 }) → s.state ≡ blank
+unfolding start_of in_range
+none-started s e = rw e
 
-pub returns-in-Step : goal.returns-in-Step
-unfolding opened_of opened_by unopened
-returns-in-Step c = rw (← c.read-found.ensures, c.in-Step.is) c.stopped.ensures
-
-pub returns-in-End : goal.returns-in-End
-unfolding opened_of opened_by unopened
-returns-in-End c = rw (← c.read-found.ensures, c.in-End.is) c.stopped-in-End.ensures
+pub returns-in-Good : goal.returns-in-Good
+unfolding opened_of opened_by verdict_of
+returns-in-Good c = rw (← c.first.ensures, c.in-Ok.is, ← c.start-started.ensures, c.in-Good.is)
 
 pub returns-in-Refused : goal.returns-in-Refused
+unfolding opened_of opened_by verdict_of
+returns-in-Refused c = rw (← c.first.ensures, c.in-Ok.is, ← c.start-started.ensures, c.in-Refused.is)
+
+pub returns-in-Err : goal.returns-in-Err
 unfolding opened_of opened_by unopened
-returns-in-Refused c = rw (← c.read-found.ensures, c.in-Refused.is) c.stopped-in-Refused.ensures
+returns-in-Err c = rw (← c.first.ensures, c.in-Err.is, none-started _ c.start.ensures)

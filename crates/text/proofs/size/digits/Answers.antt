@@ -1,14 +1,7 @@
--- `text::size::digits` meets its contract. The invariant: the digits counted so far but one, and those of the front, are the number's.
-use native.Mathlib.Omega.{arith}
-use Rattle.text.specs.Digits.{word_short, one_digit, more_digits}
+-- `text::size::digits` meets its contract: a number has one digit more than its logarithm says.
+use Rattle.std.proofs.Common.{sym, arith}
+use Rattle.text.specs.Digits.{digits_by_powers}
 use Rattle.text.proofs.size.digits.Goals as goal
 
-pub loop-front-init : goal.loop-front-init
-loop-front-init c = (word_short c.args.n (omega arith), omega arith)
-
-pub loop-front-preserved : goal.loop-front-preserved
-loop-front-preserved c = (omega arith, omega (arith, more_digits c.loop-front.front (omega arith)))
-
 pub returns : goal.returns
-returns c = let last = one_digit c.loop-front.front (omega arith) in
-    (omega (arith, last), omega (arith, last))
+returns c = (omega arith, sym (digits_by_powers _ _ (rw c.max.ensures at c.ilog10.ensures.power_le) (rw c.max.ensures at c.ilog10.ensures.next_power_gt)))
