@@ -51,7 +51,8 @@ impl Sides {
         let h = self.of(1);
         let l = self.of(2);
         let n = self.of(3);
-        let due = stage::either((self.side == 0) | (self.side == 3), 20, 0);
+        let bad = (self.side == 0) | (self.side == 3);
+        let due = if bad { Some(20) } else { None };
         let theirs = machine::start(
             plain::byte(t),
             plain::byte(h),
@@ -60,14 +61,11 @@ impl Sides {
         );
         let verdict = theirs.verdict;
         let ours = twin::start(t, h, l, n);
-        let said = ours.said;
+        let refused = ours.refused.map(|refusal| refusal.number());
         let twin = ours.twin;
         let raw = compare::raw(theirs.state);
         let blank = raw == Raw::EMPTY;
-        (compare::verdict(verdict) == due)
-            & (said.number == due)
-            & (raw == twin.raw())
-            & (blank == (due == 20))
+        (compare::refused(verdict) == due) & (refused == due) & (raw == twin.raw()) & (blank == bad)
     }
 }
 

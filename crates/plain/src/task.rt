@@ -53,10 +53,10 @@ pub struct Said {
     pub b: usize,
 }
 
-impl Order {
+impl Operation {
     // None where the number is no operation's.
-    pub fn known(self) -> Option<Operation> {
-        match self.operation {
+    pub fn of(number: usize) -> Option<Operation> {
+        match number {
             1 => Some(Operation::Take),
             2 => Some(Operation::Protect),
             3 => Some(Operation::Swap),
@@ -66,6 +66,12 @@ impl Order {
             7 => Some(Operation::GoOn),
             _ => None,
         }
+    }
+}
+
+impl Order {
+    pub fn known(self) -> Option<Operation> {
+        Operation::of(self.operation)
     }
 }
 
