@@ -2,17 +2,18 @@
 use crate::setting::{Setting, Side, Size};
 use crate::table::Table;
 use plain::Raw;
+use twin::Refusal;
 
 // "Starting with a size out of range is refused 20 and returns the blank state."
 fn is_shown(z: Setting, inside: bool) -> bool {
-    let due = if inside { 0 } else { 20 };
+    let due = if inside { None } else { Some(20) };
     let theirs = z.start();
     let ours = twin::start(z.threads, z.slots, z.links, z.objects);
     let raw = compare::raw(theirs.state);
-    compare::verdict(theirs.verdict) == due
-        && ours.said.number == due
+    compare::refused(theirs.verdict) == due
+        && ours.refused.map(Refusal::number) == due
         && raw == ours.twin.raw()
-        && (raw == Raw::EMPTY) == !inside
+        && (raw == Raw::EMPTY) != inside
 }
 
 // A row is a size, a column its side. A count is that of the others' limits, 2 × 2 × 2.

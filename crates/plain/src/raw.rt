@@ -1,5 +1,6 @@
 // A state as 01 lists it, in plain numbers, and 01's soundness asked of it: each object is looked for in every place.
 ghost use Rattle.std.specs.Prelude.{◌≤◌, length};
+
 use crate::num;
 use crate::task::{Doing, Task};
 

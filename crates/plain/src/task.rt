@@ -26,7 +26,7 @@ pub struct Task {
 // 01's operations, 1 to 7.
 #[derive(Clone, Copy, Debug, PartialEq, Eq)]
 pub enum Operation {
-    Take,
+    Take = 1,
     Protect,
     Swap,
     Read,
@@ -53,10 +53,20 @@ pub struct Said {
     pub b: usize,
 }
 
-impl Order {
+impl Operation {
+    pub const ALL: [Operation; 7] = [
+        Operation::Take,
+        Operation::Protect,
+        Operation::Swap,
+        Operation::Read,
+        Operation::Retire,
+        Operation::Clear,
+        Operation::GoOn,
+    ];
+
     // None where the number is no operation's.
-    pub fn known(self) -> Option<Operation> {
-        match self.operation {
+    pub fn of(number: usize) -> Option<Operation> {
+        match number {
             1 => Some(Operation::Take),
             2 => Some(Operation::Protect),
             3 => Some(Operation::Swap),
@@ -66,6 +76,12 @@ impl Order {
             7 => Some(Operation::GoOn),
             _ => None,
         }
+    }
+}
+
+impl Order {
+    pub fn known(self) -> Option<Operation> {
+        Operation::of(self.operation)
     }
 }
 

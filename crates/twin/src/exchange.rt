@@ -1,6 +1,6 @@
 // From plain numbers to a twin, and from a twin to plain numbers.
 use crate::place::Place;
-use crate::twin::{BLANK, Twin};
+use crate::twin::Twin;
 use plain::Raw;
 
 // The twin of a sound state. Of another it is one to draw a call for: there an object may be in two places, and here it is in
@@ -15,7 +15,7 @@ pub fn of(r: &Raw) -> Twin {
         mark: r.mark,
         task: r.task,
         tag: r.tag,
-        ..BLANK
+        ..Twin::BLANK
     };
     for (place, &free) in w.place.iter_mut().zip(&r.free) {
         if free {

@@ -26,6 +26,12 @@ pub struct Stepped {
     pub said: Said,
 }
 
+#[derive(Clone, Copy)]
+pub struct Started {
+    pub twin: Twin,
+    pub refused: Option<Refusal>,
+}
+
 // How many objects are in the places of each kind.
 #[derive(Clone, Copy, Debug, PartialEq, Eq)]
 pub struct Counts {
@@ -36,40 +42,33 @@ pub struct Counts {
     pub carried: usize,
 }
 
-pub const BLANK: Twin = Twin {
-    trap: None,
-    threads: 0,
-    slots: 0,
-    links: 0,
-    objects: 0,
-    place: [Place::Nowhere; 240],
-    tag: [0; 240],
-    hazard: [0; 32],
-    mark: [false; 32],
-    task: [Task::IDLE; 8],
-};
-
 // 01: sizes "T threads 1 to 8, H hazard slots per thread 1 to 4, L links 1 to 16, N objects 1 to 240"; any other is refused 20
 // and gives the blank state.
-pub fn start(threads: usize, slots: usize, links: usize, objects: usize) -> Stepped {
+pub fn start(threads: usize, slots: usize, links: usize, objects: usize) -> Started {
     let good = (1..=8).contains(&threads)
         && (1..=4).contains(&slots)
         && (1..=16).contains(&links)
         && (1..=240).contains(&objects);
     if !good {
-        return BLANK.refused(Refusal::Sizes);
+        return Started {
+            twin: Twin::BLANK,
+            refused: Some(Refusal::Sizes),
+        };
     }
     let mut fresh = Twin {
         threads,
         slots,
         links,
         objects,
-        ..BLANK
+        ..Twin::BLANK
     };
     for place in fresh.place.iter_mut().take(objects) {
         *place = Place::Free;
     }
-    fresh.answer(0, 0, 0)
+    Started {
+        twin: fresh,
+        refused: None,
+    }
 }
 
 // An object's entry in a row.
@@ -78,6 +77,19 @@ fn entry<T>(row: &mut [T], object: usize) -> Option<&mut T> {
 }
 
 impl Twin {
+    pub const BLANK: Twin = Twin {
+        trap: None,
+        threads: 0,
+        slots: 0,
+        links: 0,
+        objects: 0,
+        place: [Place::Nowhere; 240],
+        tag: [0; 240],
+        hazard: [0; 32],
+        mark: [false; 32],
+        task: [Task::IDLE; 8],
+    };
+
     pub fn in_trap(mut self, trap: Option<Trap>) -> Twin {
         self.trap = trap;
         self
@@ -90,7 +102,7 @@ impl Twin {
 
     // "Refusals of a call return a = b = 0 and the same state."
     pub fn refused(self, refusal: Refusal) -> Stepped {
-        self.answer(refusal as usize, 0, 0)
+        self.answer(refusal.number(), 0, 0)
     }
 
     // The lowest-numbered object at a place. 01: "0 means no object".
