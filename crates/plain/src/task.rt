@@ -27,7 +27,7 @@ pub struct Task {
 // 01's operations, 1 to 7.
 #[derive(Clone, Copy, Debug, PartialEq, Eq)]
 pub enum Operation {
-    Take,
+    Take = 1,
     Protect,
     Swap,
     Read,
@@ -56,6 +56,16 @@ pub struct Said {
 }
 
 impl Operation {
+    pub const ALL: [Operation; 7] = [
+        Operation::Take,
+        Operation::Protect,
+        Operation::Swap,
+        Operation::Read,
+        Operation::Retire,
+        Operation::Clear,
+        Operation::GoOn,
+    ];
+
     // None where the number is no operation's.
     pub fn of(number: usize) -> Option<Operation> {
         match number {
