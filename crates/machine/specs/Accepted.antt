@@ -128,6 +128,9 @@ module _ (s : State) (c : Call) where
         objects = object_pass (slot_at s (position_of s c.thread c.slot)) s.pool c thread.1;
       }
 
+  pub within_eight : refusal_of s c ≡ None → c.thread < 8
+  within_eight e = let a = accepted e in thread_eight s a.sound.ranged c.thread a.fields.thread
+
   -- 19 or else the rest
 
   pub refused_unsound : sound s ≡ false → refusal_of s c ≡ Some Unsound

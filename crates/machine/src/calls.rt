@@ -1,11 +1,13 @@
 // The table of calls: what each does when it is accepted. Going on is in go_on.rt, what is accepted in refusals.rt.
+#![tactic(auto, unfolding(crate::specs::Calls::take_of, crate::specs::Calls::protect_of, crate::specs::Calls::expected, crate::specs::Calls::swap_of, crate::specs::Calls::read_of, crate::specs::Calls::retire_of, crate::specs::Calls::clear_of))]
+
 ghost use Rattle.std.specs.Prelude.{◌≡◌, cond, ◌+◌, ◌*◌, ◌<◌, ◌≤◌, get_or, eqb};
 ghost use Rattle.entries.specs.Entries.{empty_slot};
 ghost use Rattle.pool.specs.Pool.{next_of};
 ghost use Rattle.machine.specs.Parts.{position_of, slot_at};
 ghost use Rattle.machine.specs.Calls.{take_of, protect_of, swap_of, read_of, retire_of, clear_of};
 
-use crate::parts::slot_at;
+use crate::caller::Caller;
 use crate::{Answer, Outcome, State};
 use entries::{Phase, Sizes, Slot, Thread};
 
@@ -15,34 +17,24 @@ fn expected(sizes: Sizes, slots: [Slot; 32], thread: u8, slot: u8) -> u8
     ensures { result ≡ cond (eqb slot 255) 0 (get_or slots (thread * sizes.slots + slot) empty_slot).hazard }
 {
     if slot == 255 {
-        return 0;
+        0
+    } else {
+        slots[usize::from(sizes.position(thread, slot))].hazard
     }
-    let held = slot_at(slots, sizes.position(thread, slot));
-    held.hazard
 }
 
+// Each call but a read changes a copy of the state: so the compiler makes fewer copies than of a state that is changed where it came in.
 impl State {
     // take: "lowest-numbered free object goes to the hand with this tag"
-    pub(crate) fn take(self, thread: u8, tag: u32) -> Outcome
-        requires { (thread < 8) × (0 < next_of self.pool) }
-        ensures { result ≡ take_of self thread tag }
+    pub(crate) fn take(self, caller: Caller, tag: u32) -> Outcome
+        requires { 0 < next_of self.pool }
+        ensures { result ≡ take_of self caller.number tag }
     {
-        let pool = self.pool;
-        let Some(object) = pool.next() else {
-            unreachable!()
-        };
-        let taken = pool.take_out(object);
-        let t = thread as usize;
-        let me = self.threads[t];
-        let phase = me.phase;
+        let object = self.pool.next().unwrap();
         let mut next = self;
-        next.threads[t] = Thread {
-            hand: object,
-            phase,
-        };
-        let o = object as usize - 1;
-        next.pool = taken;
-        next.tags[o] = tag;
+        next.threads[usize::from(caller.number)].hand = object;
+        next.pool = self.pool.take_out(object);
+        next.tags[usize::from(object) - 1] = tag;
         Outcome {
             state: next,
             answer: Answer::Taken(object),
@@ -50,19 +42,13 @@ impl State {
     }
 
     // protect: "read the link; become Loaded"
-    pub(crate) fn protect(self, thread: u8, slot: u8, link: u8) -> Outcome
-        requires { (thread < 8) × (link < 16) }
-        ensures { result ≡ protect_of self thread slot link }
+    pub(crate) fn protect(self, caller: Caller, slot: u8, link: u8) -> Outcome
+        requires { link < 16 }
+        ensures { result ≡ protect_of self caller.number slot link }
     {
-        let t = thread as usize;
-        let l = link as usize;
-        let object = self.links[l];
-        let me = self.threads[t];
+        let object = self.links[usize::from(link)];
         let mut next = self;
-        next.threads[t] = Thread {
-            hand: me.hand,
-            phase: Phase::Loaded { slot, link, object },
-        };
+        next.threads[usize::from(caller.number)].phase = Phase::Loaded { slot, link, object };
         Outcome {
             state: next,
             answer: Answer::Begun(object),
@@ -70,27 +56,23 @@ impl State {
     }
 
     // swap: "if the link holds the slot's object (255: holds 0), link and hand change places"
-    pub(crate) fn swap(self, thread: u8, slot: u8, link: u8) -> Outcome
-        requires thread_bound { (thread < 8) × (link < 16) }
-        requires slot_bound { (slot ≡ 255 → ⊥) → position_of self thread slot < 32 }
-        ensures { result ≡ swap_of self thread slot link }
+    pub(crate) fn swap(self, caller: Caller, slot: u8, link: u8) -> Outcome
+        requires link_bound { link < 16 }
+        requires slot_bound { (slot ≡ 255 → ⊥) → position_of self caller.number slot < 32 }
+        ensures { result ≡ swap_of self caller.number slot link }
     {
-        let l = link as usize;
+        let l = usize::from(link);
         let there = self.links[l];
-        let sizes = self.sizes;
-        let slots = self.slots;
-        if there != expected(sizes, slots, thread, slot) {
+        if there != expected(self.sizes, self.slots, caller.number, slot) {
             return Outcome {
                 state: self,
                 answer: Answer::Moved,
             };
         }
-        let t = thread as usize;
-        let me = self.threads[t];
-        let phase = me.phase;
+        let t = usize::from(caller.number);
         let mut next = self;
-        next.threads[t] = Thread { hand: there, phase };
-        next.links[l] = me.hand;
+        next.links[l] = self.threads[t].hand;
+        next.threads[t].hand = there;
         Outcome {
             state: next,
             answer: Answer::Swapped(there),
@@ -98,63 +80,53 @@ impl State {
     }
 
     // read: no effect
-    pub(crate) fn read(self, thread: u8, slot: u8) -> Outcome
-        requires slot_bound { position_of self thread slot < 32 }
-        requires hazard_bound { (slot_at self (position_of self thread slot)).hazard ≤ 240 }
-        requires hazard_nonzero { 0 < (slot_at self (position_of self thread slot)).hazard }
-        ensures { result ≡ read_of self thread slot }
+    pub(crate) fn read(self, caller: Caller, slot: u8) -> Outcome
+        requires slot_bound { position_of self caller.number slot < 32 }
+        requires hazard_bound { (slot_at self (position_of self caller.number slot)).hazard ≤ 240 }
+        requires hazard_nonzero { 0 < (slot_at self (position_of self caller.number slot)).hazard }
+        ensures { result ≡ read_of self caller.number slot }
     {
-        let p = self.sizes.position(thread, slot) as usize;
-        let held = self.slots[p];
-        let o = held.hazard as usize - 1;
-        let tag = self.tags[o];
+        let p = usize::from(self.sizes.position(caller.number, slot));
+        let o = usize::from(self.slots[p].hazard) - 1;
         Outcome {
             state: self,
-            answer: Answer::Tag(tag),
+            answer: Answer::Tag(self.tags[o]),
         }
     }
 
     // retire: "hand is emptied; become Look(that object, 0)"
-    pub(crate) fn retire(self, thread: u8) -> Outcome
-        requires { thread < 8 }
-        ensures { result ≡ retire_of self thread }
+    pub(crate) fn retire(self, caller: Caller) -> Outcome
+        ensures { result ≡ retire_of self caller.number }
     {
-        let t = thread as usize;
-        let me = self.threads[t];
-        let carried = me.hand;
+        let t = usize::from(caller.number);
+        let object = self.threads[t].hand;
         let mut next = self;
         next.threads[t] = Thread {
             hand: 0,
             phase: Phase::Look {
-                object: carried,
+                object,
                 position: 0,
             },
         };
         Outcome {
             state: next,
-            answer: Answer::Begun(carried),
+            answer: Answer::Begun(object),
         }
     }
 
     // clear: "hazard 0, mark off; become Draining"
-    pub(crate) fn clear(self, thread: u8, slot: u8) -> Outcome
-        requires { (thread < 8) × (position_of self thread slot < 32) }
-        ensures { result ≡ clear_of self thread slot }
+    pub(crate) fn clear(self, caller: Caller, slot: u8) -> Outcome
+        requires { position_of self caller.number slot < 32 }
+        ensures { result ≡ clear_of self caller.number slot }
     {
-        let p = self.sizes.position(thread, slot) as usize;
-        let held = self.slots[p];
+        let p = usize::from(self.sizes.position(caller.number, slot));
         let mut next = self;
         next.slots[p] = Slot {
             hazard: 0,
             mark: false,
-            handover: held.handover,
+            ..self.slots[p]
         };
-        let t = thread as usize;
-        let me = self.threads[t];
-        next.threads[t] = Thread {
-            hand: me.hand,
-            phase: Phase::Draining { slot },
-        };
+        next.threads[usize::from(caller.number)].phase = Phase::Draining { slot };
         Outcome {
             state: next,
             answer: Answer::Begun(0),

@@ -1,33 +1,30 @@
 // "Go on": one step, by what the thread is in the middle of. A scan goes on and ends by what its phase returns to.
+#![tactic(auto, unfolding(crate::specs::GoOn::publish_of, crate::specs::GoOn::confirm_of, crate::specs::GoOn::nothing_found, crate::specs::GoOn::empty_of, crate::specs::GoOn::look_of, crate::specs::GoOn::hand_over_of))]
+
 ghost use Rattle.std.specs.Prelude.{◌≡◌, true, ◌<◌, ◌≤◌};
 ghost use Rattle.entries.specs.Sizes.{positions};
 ghost use Rattle.machine.specs.Parts.{link_at, position_of};
 ghost use Rattle.machine.specs.Soundness.{sound};
 ghost use Rattle.machine.specs.GoOn.{publish_of, confirm_of, empty_of, look_of, hand_over_of, go_on_of};
 
+use crate::caller::Caller;
 use crate::{Answer, Outcome, Refusal, State, Work};
-use entries::{Phase, Slot, Thread};
+use entries::{Phase, Slot};
 
 impl State {
     // "Loaded: store the object in the hazard, mark off." The handover is next.
-    fn publish(mut self, thread: u8, slot: u8, link: u8, object: u8) -> Outcome
-        requires { (thread < 8) × (position_of self thread slot < 32) }
-        ensures { result ≡ publish_of self thread slot link object }
+    fn publish(mut self, caller: Caller, slot: u8, link: u8, object: u8) -> Outcome
+        requires { position_of self caller.number slot < 32 }
+        ensures { result ≡ publish_of self caller.number slot link object }
     {
-        let own = self.sizes.position(thread, slot);
-        let p = own as usize;
-        let held = self.slots[p];
+        let own = self.sizes.position(caller.number, slot);
+        let p = usize::from(own);
         self.slots[p] = Slot {
             hazard: object,
             mark: false,
-            handover: held.handover,
+            ..self.slots[p]
         };
-        let t = thread as usize;
-        let me = self.threads[t];
-        self.threads[t] = Thread {
-            hand: me.hand,
-            phase: Phase::Sweeping { slot, link },
-        };
+        self.threads[usize::from(caller.number)].phase = Phase::Sweeping { slot, link };
         Outcome {
             state: self,
             answer: Answer::Working(Work::Publication(own)),
@@ -36,45 +33,32 @@ impl State {
 
     // "Published: read the link again. Equal to the hazard and not 0: mark on, idle. Equal and 0: idle. Different: Loaded with the value
     // read."
-    fn confirm(mut self, thread: u8, slot: u8, link: u8) -> Outcome
-        requires thread_bound { (thread < 8) × (link < 16) }
-        requires slot_bound { (position_of self thread slot < 32) × (link_at self link ≤ 240) }
-        ensures { result ≡ confirm_of self thread slot link }
+    fn confirm(mut self, caller: Caller, slot: u8, link: u8) -> Outcome
+        requires link_bound { link < 16 }
+        requires slot_bound { position_of self caller.number slot < 32 }
+        requires object_bound { link_at self link ≤ 240 }
+        ensures { result ≡ confirm_of self caller.number slot link }
     {
-        let l = link as usize;
-        let object = self.links[l];
-        let own = self.sizes.position(thread, slot);
-        let p = own as usize;
-        let held = self.slots[p];
-        let t = thread as usize;
-        let me = self.threads[t];
-        if object != held.hazard {
-            self.threads[t] = Thread {
-                hand: me.hand,
-                phase: Phase::Loaded { slot, link, object },
-            };
+        let object = self.links[usize::from(link)];
+        let own = self.sizes.position(caller.number, slot);
+        let p = usize::from(own);
+        let t = usize::from(caller.number);
+        if object != self.slots[p].hazard {
+            self.threads[t].phase = Phase::Loaded { slot, link, object };
             return Outcome {
                 state: self,
                 answer: Answer::Working(Work::FailedRead(own)),
             };
         }
-        self.threads[t] = Thread {
-            hand: me.hand,
-            phase: Phase::Idle,
-        };
+        self.threads[t].phase = Phase::Idle;
         if object == 0 {
             return Outcome {
                 state: self,
                 answer: Answer::Nothing,
             };
         }
-        self.slots[p] = Slot {
-            hazard: held.hazard,
-            mark: true,
-            handover: held.handover,
-        };
-        let o = object as usize - 1;
-        let tag = self.tags[o];
+        self.slots[p].mark = true;
+        let tag = self.tags[usize::from(object) - 1];
         Outcome {
             state: self,
             answer: Answer::Protected(object, tag),
@@ -83,26 +67,17 @@ impl State {
 
     // "take the handover and put 0 there": the drain of a clear, and the step after a publication. It was 0: on to `back`, which says
     // which of the two it was. Otherwise a scan of what stood there, from this slot's position, that returns to `back`.
-    fn empty(mut self, thread: u8, slot: u8, back: Phase) -> Outcome
-        requires { (thread < 8) × (position_of self thread slot < 32) }
-        ensures { result ≡ empty_of self thread slot back }
+    fn empty(mut self, caller: Caller, slot: u8, back: Phase) -> Outcome
+        requires { position_of self caller.number slot < 32 }
+        ensures { result ≡ empty_of self caller.number slot back }
     {
-        let own = self.sizes.position(thread, slot);
-        let p = own as usize;
-        let held = self.slots[p];
-        let object = held.handover;
-        self.slots[p] = Slot {
-            hazard: held.hazard,
-            mark: held.mark,
-            handover: 0,
-        };
-        let t = thread as usize;
-        let me = self.threads[t];
+        let own = self.sizes.position(caller.number, slot);
+        let p = usize::from(own);
+        let t = usize::from(caller.number);
+        let object = self.slots[p].handover;
+        self.slots[p].handover = 0;
         if object == 0 {
-            self.threads[t] = Thread {
-                hand: me.hand,
-                phase: back,
-            };
+            self.threads[t].phase = back;
             if back.is_idle() {
                 return Outcome {
                     state: self,
@@ -114,10 +89,7 @@ impl State {
                 answer: Answer::Working(Work::FoundNothing(own)),
             };
         }
-        self.threads[t] = Thread {
-            hand: me.hand,
-            phase: back.looking(object, own),
-        };
+        self.threads[t].phase = back.looking(object, own);
         Outcome {
             state: self,
             answer: Answer::Working(Work::Found(own)),
@@ -125,35 +97,25 @@ impl State {
     }
 
     // "Look, position below T × H: if the hazard there is the object, Swap at that position; otherwise Look one position on."
-    fn look(mut self, thread: u8, object: u8, position: u8) -> Outcome
-        requires thread_bound { (thread < 8) × (positions self.sizes ≤ 32) }
-        requires object_nonzero { (0 < object) × (object ≤ 240) }
-        ensures { result ≡ look_of self thread object position }
+    fn look(mut self, caller: Caller, object: u8, position: u8) -> Outcome
+        requires positions_bound { positions self.sizes ≤ 32 }
+        requires object_bound { (0 < object) × (object ≤ 240) }
+        ensures { result ≡ look_of self caller.number object position }
     {
-        let end = self.sizes.threads * self.sizes.slots;
-        if end <= position {
-            return self.let_go(thread, object);
+        if self.sizes.threads * self.sizes.slots <= position {
+            return self.let_go(caller, object);
         }
-        let p = position as usize;
-        let there = self.slots[p];
-        let t = thread as usize;
-        let me = self.threads[t];
-        let back = me.phase.returns_to();
-        if there.hazard == object {
-            self.threads[t] = Thread {
-                hand: me.hand,
-                phase: back.swapping(object, position),
-            };
+        let t = usize::from(caller.number);
+        let back = self.threads[t].phase.returns_to();
+        if self.slots[usize::from(position)].hazard == object {
+            self.threads[t].phase = back.swapping(object, position);
             return Outcome {
                 state: self,
                 answer: Answer::Working(Work::Match(position)),
             };
         }
         let further = position + 1;
-        self.threads[t] = Thread {
-            hand: me.hand,
-            phase: back.looking(object, further),
-        };
+        self.threads[t].phase = back.looking(object, further);
         Outcome {
             state: self,
             answer: Answer::Working(Work::NoMatch(position)),
@@ -161,21 +123,14 @@ impl State {
     }
 
     // "Look at T × H: object becomes free, tag 0", and the scan ends.
-    fn let_go(mut self, thread: u8, object: u8) -> Outcome
-        requires { (thread < 8) × ((0 < object) × (object ≤ 240)) }
-        ensures { result ≡ look_of self thread object (positions self.sizes) }
+    fn let_go(mut self, caller: Caller, object: u8) -> Outcome
+        requires { (0 < object) × (object ≤ 240) }
+        ensures { result ≡ look_of self caller.number object (positions self.sizes) }
     {
-        let pool = self.pool;
-        let freed = pool.put_back(object);
-        let t = thread as usize;
-        let me = self.threads[t];
-        self.threads[t] = Thread {
-            hand: me.hand,
-            phase: me.phase.returns_to(),
-        };
-        let o = object as usize - 1;
-        self.pool = freed;
-        self.tags[o] = 0;
+        let t = usize::from(caller.number);
+        self.threads[t].phase = self.threads[t].phase.returns_to();
+        self.pool = self.pool.put_back(object);
+        self.tags[usize::from(object) - 1] = 0;
         Outcome {
             state: self,
             answer: Answer::Freed(object),
@@ -183,79 +138,63 @@ impl State {
     }
 
     // "Swap: put the object in that handover." It held 0 before: the scan ends. "Otherwise Look(the old one, the same position)."
-    fn hand_over(mut self, thread: u8, object: u8, position: u8) -> Outcome
-        requires { (thread < 8) × (position < 32) }
-        ensures { result ≡ hand_over_of self thread object position }
+    fn hand_over(mut self, caller: Caller, object: u8, position: u8) -> Outcome
+        requires { position < 32 }
+        ensures { result ≡ hand_over_of self caller.number object position }
     {
-        let p = position as usize;
-        let there = self.slots[p];
-        let old = there.handover;
-        self.slots[p] = Slot {
-            hazard: there.hazard,
-            mark: there.mark,
-            handover: object,
-        };
-        let t = thread as usize;
-        let me = self.threads[t];
-        let back = me.phase.returns_to();
+        let p = usize::from(position);
+        let old = self.slots[p].handover;
+        self.slots[p].handover = object;
+        let t = usize::from(caller.number);
+        let back = self.threads[t].phase.returns_to();
         if old == 0 {
-            self.threads[t] = Thread {
-                hand: me.hand,
-                phase: back,
-            };
+            self.threads[t].phase = back;
             return Outcome {
                 state: self,
                 answer: Answer::Left(object, position),
             };
         }
         // "The same position is looked at again."
-        let again = position;
-        self.threads[t] = Thread {
-            hand: me.hand,
-            phase: back.looking(old, again),
-        };
+        self.threads[t].phase = back.looking(old, position);
         Outcome {
             state: self,
             answer: Answer::Working(Work::Displacement(position)),
         }
     }
 
+    #[tactic(auto, unfolding(crate::specs::GoOn::go_on_of, crate::specs::GoOn::go_on_from, crate::specs::GoOn::sweep_of, crate::specs::GoOn::drain_of))]
     // An idle thread has nothing to go on with; refusal 27 comes before this case is reached.
-    pub(crate) fn go_on(self, thread: u8) -> Outcome
-        requires { (sound self ≡ true) × (thread < self.sizes.threads) }
-        ensures { result ≡ go_on_of self thread }
+    pub(crate) fn go_on(self, caller: Caller) -> Outcome
+        requires { (sound self ≡ true) × (caller.number < self.sizes.threads) }
+        ensures { result ≡ go_on_of self caller.number }
     {
-        let t = thread as usize;
         // out of a copy of the threads, as in the refusals
         let threads = self.threads;
-        let me = threads[t];
+        let me = threads[usize::from(caller.number)];
         let phase = me.phase;
         match phase {
             Phase::Idle => Outcome {
                 state: self,
                 answer: Answer::Refused(Refusal::Idle),
             },
-            Phase::Loaded { slot, link, object } => self.publish(thread, slot, link, object),
+            Phase::Loaded { slot, link, object } => self.publish(caller, slot, link, object),
             Phase::Sweeping { slot, link } => {
-                let back = Phase::Published { slot, link };
-                self.empty(thread, slot, back)
+                self.empty(caller, slot, Phase::Published { slot, link })
             }
-            Phase::Published { slot, link } => self.confirm(thread, slot, link),
-            Phase::Draining { slot } => self.empty(thread, slot, Phase::Idle),
+            Phase::Published { slot, link } => self.confirm(caller, slot, link),
+            Phase::Draining { slot } => self.empty(caller, slot, Phase::Idle),
             Phase::Look { object, position }
             | Phase::SweepLook {
                 object,
                 position,
-                slot: _,
-                link: _,
-            } => self.look(thread, object, position),
+                ..
+            } => { self.look(caller, object, position) }
             Phase::Swap { object, position }
             | Phase::SweepSwap {
                 object,
                 position,
-                slot: _,
-                link: _,
-            } => self.hand_over(thread, object, position),
+                ..
+            } => { self.hand_over(caller, object, position) }
         }
     }
 }

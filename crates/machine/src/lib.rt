@@ -1,12 +1,12 @@
 // The record machine: the state, start, the soundness check, one step, and the count of the five places.
 #![tactic(auto)]
 
+mod caller;
 mod calls;
 mod count;
 mod fresh;
 mod go_on;
 mod operation;
-mod parts;
 mod refusal;
 mod refusals;
 mod request;

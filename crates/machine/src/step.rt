@@ -3,12 +3,13 @@ ghost use Rattle.std.specs.Prelude.{◌≡◌, None};
 ghost use Rattle.machine.specs.Refusals.{refusal_of};
 ghost use Rattle.machine.specs.Step.{done_of, step_of};
 
+use crate::caller::Caller;
 use crate::request::Request;
 use crate::{Answer, Call, Operation, Outcome, State};
 
 impl State {
     // The effect of a call that is not refused.
-    #[tactic(auto, unfolding(crate::specs::Step::done_of, crate::specs::Operations::operation_number, crate::specs::Refusals::uses_slot, crate::specs::Refusals::uses_link, crate::specs::Refusals::without_slot, crate::specs::Refusals::reads_slot))]
+    #[tactic(auto, using(crate::specs::Accepted::within_eight), unfolding(crate::specs::Step::done_of, crate::specs::Operations::operation_number, crate::specs::Refusals::uses_slot, crate::specs::Refusals::uses_link, crate::specs::Refusals::without_slot, crate::specs::Refusals::reads_slot))]
     fn done(self, request: Request) -> Outcome
         requires { refusal_of self request.call ≡ None }
         ensures { result ≡ done_of self request.call }
@@ -20,14 +21,15 @@ impl State {
             tag,
             ..
         } = request.call;
+        let caller = Caller { number: thread };
         match request.operation {
-            Operation::Take => self.take(thread, tag),
-            Operation::Protect => self.protect(thread, slot, link),
-            Operation::Swap => self.swap(thread, slot, link),
-            Operation::Read => self.read(thread, slot),
-            Operation::Retire => self.retire(thread),
-            Operation::Clear => self.clear(thread, slot),
-            Operation::GoOn => self.go_on(thread),
+            Operation::Take => self.take(caller, tag),
+            Operation::Protect => self.protect(caller, slot, link),
+            Operation::Swap => self.swap(caller, slot, link),
+            Operation::Read => self.read(caller, slot),
+            Operation::Retire => self.retire(caller),
+            Operation::Clear => self.clear(caller, slot),
+            Operation::GoOn => self.go_on(caller),
         }
     }
 

@@ -1,7 +1,7 @@
 -- `go_on` picks the case by the phase. Soundness says that what the phase carries is in range, which is what each case asks.
 use Prim.Native.Nat.{ℕ, ◌<◌, ◌≤◌}
 use native.Mathlib.Omega.{arith}
-use mathlib.Core.Path.{◌≡◌, ◌∙◌}
+use mathlib.Core.Path.{◌≡◌, subst}
 use mathlib.Core.Bool.{true}
 use mathlib.Core.Logic.{⊎_elim}
 use Rattle.entries.specs.declared.Phase.{Phase}
@@ -10,8 +10,7 @@ use Rattle.entries.specs.PhaseFacts.{loaded_facts, sweeping_facts, published_fac
 use Rattle.machine.specs.declared.State.{State}
 use Rattle.machine.specs.Soundness.{sound}
 use Rattle.machine.specs.Parts.{phase_of, position_of}
-use Rattle.machine.specs.Sound.{Ranged, to_sound, limits, thread_eight, link_sixteen, position_32, position_fits, link_holds, its_phase}
-use Rattle.machine.specs.GoOn.{go_on_of, go_on_from, sweep_of, drain_of}
+use Rattle.machine.specs.Sound.{Ranged, to_sound, limits, link_sixteen, position_32, position_fits, link_holds, its_phase}
 use Rattle.machine.proofs.State.go_on.Goals as goal
 
 -- What a sound state says of a thread of its own and of what it is in the middle of.
@@ -19,44 +18,37 @@ module _ (s : State) (t : ℕ) (good : sound s ≡ true) (inside : t < s.sizes.t
   ranged : Ranged s
   ranged = (to_sound _ good).ranged
 
-  small : t < 8
-  small = thread_eight _ ranged _ inside
-
   has_slot : (slot : ℕ) → slot < s.sizes.slots → position_of s t slot < 32
   has_slot slot h = position_fits _ ranged _ slot inside h
 
-  in_range : (phase : Phase) → phase_of s t ≡ phase → phase_in_range s.sizes phase ≡ true
-  in_range phase e = rw e at (its_phase _ ranged _ inside)
-
-pub bounds-threads-t : goal.bounds-threads-t
-bounds-threads-t c = small _ _ c.requires.0 c.requires.1
+  -- the phase is read at the index that the caller's number makes
+  in_range : (i : ℕ) → i ≡ t → (phase : Phase) → phase_of s i ≡ phase → phase_in_range s.sizes phase ≡ true
+  in_range i same phase e =
+      let is : phase_of s t ≡ phase = subst (λ (k : ℕ). phase_of s k ≡ phase) same e in rw is at (its_phase _ ranged _ inside)
 
 pub publish-requires : goal.publish-requires
 publish-requires c =
     let h = c.requires in
-    (small _ _ h.0 h.1, has_slot _ _ h.0 h.1 _ (loaded_facts _ _ _ _ (in_range _ _ h.0 h.1 _ c.in-Loaded.is)).0)
+    has_slot _ _ h.0 h.1 _ (loaded_facts _ _ _ _ (in_range _ _ h.0 h.1 _ c.from.ensures _ c.in-Loaded.is)).0
 
 pub empty-requires : goal.empty-requires
 empty-requires c =
     let h = c.requires in
-    (small _ _ h.0 h.1, has_slot _ _ h.0 h.1 _ (sweeping_facts _ _ _ (in_range _ _ h.0 h.1 _ c.in-Sweeping.is)).0)
+    has_slot _ _ h.0 h.1 _ (sweeping_facts _ _ _ (in_range _ _ h.0 h.1 _ c.from.ensures _ c.in-Sweeping.is)).0
 
 pub confirm-requires : goal.confirm-requires
 confirm-requires c =
     let h = c.requires in
     let r = ranged _ _ h.0 h.1 in
-    let facts = published_facts _ _ _ (in_range _ _ h.0 h.1 _ c.in-Published.is) in
+    let facts = published_facts _ _ _ (in_range _ _ h.0 h.1 _ c.from.ensures _ c.in-Published.is) in
     let b = limits _ r in
     let held = link_holds _ r _ facts.1 in
-    record {
-      thread_bound = (small _ _ h.0 h.1, link_sixteen _ r _ facts.1);
-      slot_bound = (has_slot _ _ h.0 h.1 _ facts.0, omega arith);
-    }
+    record { link_bound = link_sixteen _ r _ facts.1; slot_bound = has_slot _ _ h.0 h.1 _ facts.0; object_bound = omega arith }
 
 pub empty-requires-in-Draining : goal.empty-requires-in-Draining
 empty-requires-in-Draining c =
     let h = c.requires in
-    (small _ _ h.0 h.1, has_slot _ _ h.0 h.1 _ (draining_facts _ _ (in_range _ _ h.0 h.1 _ c.in-Draining.is)))
+    has_slot _ _ h.0 h.1 _ (draining_facts _ _ (in_range _ _ h.0 h.1 _ c.from.ensures _ c.in-Draining.is))
 
 -- the two kinds of scan come to one call: which of them it was says what is carried and where
 pub hand_over-requires : goal.hand_over-requires
@@ -64,11 +56,11 @@ hand_over-requires c =
     let h = c.requires in
     let below =
     ⊎_elim
-    (λ e. (swap_facts _ _ _ (in_range _ _ h.0 h.1 _ e)).1)
-    (λ w. (sweep_swap_facts _ _ _ _ _ (in_range _ _ h.0 h.1 _ w.2)).1)
+    (λ e. (swap_facts _ _ _ (in_range _ _ h.0 h.1 _ c.from.ensures _ e)).1)
+    (λ w. (sweep_swap_facts _ _ _ _ _ (in_range _ _ h.0 h.1 _ c.from.ensures _ w.2)).1)
     c.in-Swap.is
     in
-    (small _ _ h.0 h.1, position_32 _ (ranged _ _ h.0 h.1) _ below)
+    position_32 _ (ranged _ _ h.0 h.1) _ below
 
 pub look-requires : goal.look-requires
 look-requires c =
@@ -76,38 +68,8 @@ look-requires c =
     let b = limits _ (ranged _ _ h.0 h.1) in
     let inside : (0 < c.in-Look.object) × (c.in-Look.object ≤ c.args.self.sizes.objects) =
     ⊎_elim
-    (λ e. let scan = (look_facts _ _ _ (in_range _ _ h.0 h.1 _ e)).0 in (scan.some, scan.most))
-    (λ w. let scan = (sweep_look_facts _ _ _ _ _ (in_range _ _ h.0 h.1 _ w.2)).0 in (scan.some, scan.most))
+    (λ e. let scan = (look_facts _ _ _ (in_range _ _ h.0 h.1 _ c.from.ensures _ e)).0 in (scan.some, scan.most))
+    (λ w. let scan = (sweep_look_facts _ _ _ _ _ (in_range _ _ h.0 h.1 _ c.from.ensures _ w.2)).0 in (scan.some, scan.most))
     c.in-Look.is
     in
-    record { thread_bound = (small _ _ h.0 h.1, b.positions); object_nonzero = (inside.0, omega arith) }
-
-pub returns-in-Idle : goal.returns-in-Idle
-unfolding go_on_of go_on_from
-returns-in-Idle c = rw c.in-Idle.is
-
-pub returns-in-Loaded : goal.returns-in-Loaded
-unfolding go_on_of go_on_from
-returns-in-Loaded c = c.publish.ensures ∙ rw c.in-Loaded.is
-
-pub returns-in-Sweeping : goal.returns-in-Sweeping
-unfolding go_on_of go_on_from sweep_of
-returns-in-Sweeping c = c.empty.ensures ∙ rw c.in-Sweeping.is
-
-pub returns-in-Published : goal.returns-in-Published
-unfolding go_on_of go_on_from
-returns-in-Published c = c.confirm.ensures ∙ rw c.in-Published.is
-
-pub returns-in-Draining : goal.returns-in-Draining
-unfolding go_on_of go_on_from drain_of
-returns-in-Draining c = c.empty-in-Draining.ensures ∙ rw c.in-Draining.is
-
-pub returns-in-Swap : goal.returns-in-Swap
-unfolding go_on_of go_on_from
-returns-in-Swap c =
-    c.hand_over.ensures ∙ ⊎_elim (λ e. rw e) (λ w. rw w.2) c.in-Swap.is
-
-pub returns-in-Look : goal.returns-in-Look
-unfolding go_on_of go_on_from
-returns-in-Look c =
-    c.look.ensures ∙ ⊎_elim (λ e. rw e) (λ w. rw w.2) c.in-Look.is
+    record { positions_bound = b.positions; object_bound = (inside.0, omega arith) }
