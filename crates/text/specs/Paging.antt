@@ -56,6 +56,22 @@ both_within {all = all} {p = p} {q = q} x y e short room a b =
     let kept = length_after first (omega arith) in
     record { within = short; wrote = rw e (then first (omega arith) (fitted (omega (arith, first.written.next)) b)) }
 
+-- a template that takes no more than three bytes a byte
+pub filled_within :
+    {most room : ℕ} {x : List ℕ} {p q : Page} → room ≤ most → HasRoom most p → q.at ≤ p.at + room → PutOn room x p q → WroteWithin most p x q
+filled_within {room = room} {x = x} {p = p} {q = q} small there within a =
+    let wrote : Wrote p x q = fitted {room = room} (omega arith) a in
+    record { within = omega (arith, wrote.written.next); wrote = wrote }
+
+-- two parts, each within its own room
+module _ (m n : ℕ) {x : List ℕ} {p q : Page} (room : HasRoom (m + n) p) (a : WroteWithin m p x q) where
+  pub room_after : HasRoom n q
+  room_after = omega (arith, a.within, a.wrote.written.next, length_after a.wrote (omega (arith, a.within)))
+
+  pub then_within : {y : List ℕ} {r : Page} → WroteWithin n q y r → WroteWithin (m + n) p (x ++ y) r
+  then_within {y = y} b =
+      record { within = omega (arith, length-append x y, a.within, b.within); wrote = then a.wrote (omega (arith, a.within)) b.wrote }
+
 -- What is put so far, and the bytes still to come: put from here they give what is to be put in all. The invariant of every loop that puts.
 pub record Leads (p : Page) (rest : List ℕ) (p₀ : Page) (all : List ℕ) : Type 0 where
   pub same : p.out.ghost_name ≡ p₀.out.ghost_name
