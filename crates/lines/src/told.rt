@@ -39,7 +39,7 @@ impl From<Answer> for Numbers {
     #[tactic(auto, unfolding(machine::specs::Answers::numbers_of))]
     fn from(answer: Answer) -> Numbers {
         let (number, a, b) = match answer {
-            Answer::Refused(number) => (number, 0, 0),
+            Answer::Refused(refusal) => (refusal.number(), 0, 0),
             Answer::Taken(object) => (1, u32::from(object), 0),
             Answer::Begun(object) => (2, u32::from(object), 0),
             Answer::Working(work) => {

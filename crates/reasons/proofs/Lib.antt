@@ -1,7 +1,6 @@
 -- To read: Promise and Bench, what is promised of the reasons. The other lemmas lead there, or several functions' proofs cite them.
 pub mod Promise
 pub mod Bench
-pub mod Rows
 pub mod Lemmas
 pub mod Found
 pub mod Picks

@@ -9,6 +9,7 @@ use Rattle.machine.specs.Parts.{link_at, hand_of, phase_of, slot_at}
 use Rattle.entries.specs.Facts.{Bounds}
 use Rattle.entries.specs.Phases.{carried_by, scans_at}
 use Rattle.machine.specs.Sound.{to_sound, limits}
+use Rattle.reasons.specs.declared.Guard.{Guard}
 use Rattle.reasons.specs.declared.Reason.TheVariants.{Link, Hand, Carried, Handover}
 use Rattle.reasons.specs.Reasons.{found, guard_of, link_with, hand_with, carrier_of, handover_with, reason_of, refusal_of}
 use Rattle.reasons.proofs.Found.{found_first, found_none}
@@ -39,15 +40,16 @@ module _ (s : State) (o : ℕ) where
 
       module _ (no_hand : hands ≡ None) (carriers : Option ℕ)
           (et : carriers ≡ found s.sizes.threads (λ t. eqb (carried_by (phase_of s t)) o)) where
-        pub is_carried : (t : ℕ) → carriers ≡ Some t → Carried t (scans_at (phase_of s t)) ≡ reason_of s o
+        pub is_carried : (t : ℕ) → carriers ≡ Some t → (p : ℕ) → p ≡ scans_at (phase_of s t) → Carried t p ≡ reason_of s o
         unfolding reason_of link_with hand_with carrier_of
-        is_carried t there =
+        is_carried t there p e =
             let at = found_first _ _ carriers et t there in
             rw (
               le-ltb _ _ (found_none _ _ links el no_link),
               le-ltb _ _ (found_none _ _ hands eh no_hand),
               ← at.1,
               lt-ltb t s.sizes.threads at.0,
+              e,
             )
 
         module _ (no_carrier : carriers ≡ None) (handovers : Option ℕ)
@@ -65,13 +67,14 @@ module _ (s : State) (o : ℕ) where
               in
               subst IsSome (sym ep) (rw (lt-ltb _ _ less) refl)
 
-          pub in_handover : (p : ℕ) → handovers ≡ Some p → Handover p (guard_of (slot_at s p) o) ≡ reason_of s o
+          pub in_handover : (p : ℕ) → handovers ≡ Some p → (g : Guard) → g ≡ guard_of (slot_at s p) o → Handover p g ≡ reason_of s o
           unfolding reason_of link_with hand_with carrier_of handover_with
-          in_handover p there =
+          in_handover p there g e =
               let at = found_first _ _ handovers ep p there in
               rw (
                 le-ltb _ _ (found_none _ _ links el no_link),
                 le-ltb _ _ (found_none _ _ hands eh no_hand),
                 le-ltb _ _ (found_none _ _ carriers et no_carrier),
                 ← at.1,
+                e,
               )

@@ -4,7 +4,7 @@ use Rattle.machine.specs.declared.State.{State}
 use Rattle.entries.specs.Sizes.{positions}
 use Rattle.machine.specs.Parts.{free_at}
 use Rattle.machine.specs.Soundness.{sound}
-use Rattle.reasons.specs.Rows.{FirstIs}
+use Rattle.basics.specs.Rows.{FirstIs}
 use Rattle.basics.specs.Functions.{allowed_once}
 use Rattle.reasons.specs.declared.Reason.{Reason}
 use Rattle.reasons.specs.declared.Kept.{Kept}

@@ -8,7 +8,7 @@ use Rattle.entries.specs.Sizes.{within, positions}
 use Rattle.machine.specs.Parts.{link_at, hand_of, phase_of, slot_at, free_at}
 use Rattle.entries.specs.Phases.{carried_by, scans_at}
 use Rattle.machine.specs.Soundness.{sound}
-use Rattle.reasons.specs.Rows.{Row, ◌when◌, first_of}
+use Rattle.basics.specs.Rows.{Row, ◌when◌, first_of}
 use Rattle.reasons.specs.declared.Guard.{Guard}
 use Rattle.reasons.specs.declared.Guard.TheVariants as guard
 use Rattle.reasons.specs.declared.Reason.{Reason}

@@ -7,7 +7,7 @@ use crate::{Kept, NotKept, Reason};
 use machine::State;
 
 // "Refusals: 19, then 60 object not 1 to N, then 61 object is free."
-#[tactic(auto, unfolding(crate::specs::Reasons::checked_of, crate::specs::Reasons::refusal_of, crate::specs::Reasons::refusals, crate::specs::Rows::first_of))]
+#[tactic(auto, unfolding(crate::specs::Reasons::checked_of, crate::specs::Reasons::refusal_of, crate::specs::Reasons::refusals, basics::specs::Rows::first_of))]
 fn check(state: State, object: u8) -> Result<(), NotKept>
     ensures { result ≡ checked_of state object }
 {

@@ -6,7 +6,7 @@ use Rattle.machine.specs.declared.State.{State}
 use Rattle.machine.specs.Parts.{free_at}
 use Rattle.entries.specs.Sizes.{within}
 use Rattle.machine.specs.Soundness.{sound}
-use Rattle.reasons.specs.Rows.{first_of}
+use Rattle.basics.specs.Rows.{first_of}
 use Rattle.basics.specs.Tests.{ands}
 use Rattle.reasons.specs.declared.NotKept.{NotKept}
 use Rattle.reasons.specs.declared.NotKept.TheVariants.{Unsound, NoSuchObject, Free}

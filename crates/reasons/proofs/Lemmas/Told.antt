@@ -5,8 +5,8 @@ use Rattle.std.proofs.lemmas.Bool.{false≢true}
 use Rattle.machine.specs.declared.State.{State}
 use Rattle.machine.specs.Parts.{free_at}
 use Rattle.machine.specs.Soundness.{sound}
-use Rattle.reasons.specs.Rows.{FirstIs}
-use Rattle.reasons.proofs.Rows.{first_is, first_some}
+use Rattle.basics.specs.Rows.{FirstIs}
+use Rattle.basics.proofs.Rows.{first_is, first_some}
 use Rattle.machine.specs.Sound.{Sound, to_sound}
 use Rattle.laws.specs.OnePlace.{link_not_free, hand_not_free, carried_not_free, handover_not_free}
 use Rattle.reasons.specs.declared.Reason.{Reason}

@@ -42,11 +42,11 @@ bounds-threads-from c =
 
 pub returns-in-Some-carrier : goal.returns-in-Some-carrier
 returns-in-Some-carrier c =
-    rw (c.scan_position-position.ensures, c.from.ensures)
-    (is_carried _ _
+    is_carried _ _
     c.find.result (found_by _ _ _ refl c.find.ensures.ran (λ x b q k. search (rules, tests))) c.in_default.is
     c.find-2.result (found_by _ _ _ refl c.find-2.ensures.ran (λ x b q k. search (rules, tests))) c.in_default-find.is
-    c.find-carrier.result (found_by _ _ _ refl c.find-carrier.ensures.ran (λ x b q k. search (rules, tests))) _ c.in-Some-carrier.is)
+    c.find-carrier.result (found_by _ _ _ refl c.find-carrier.ensures.ran (λ x b q k. search (rules, tests))) _ c.in-Some-carrier.is
+    _ (rw c.from.ensures at c.scan_position-position.ensures)
 
 pub overflow_mul-positions : goal.overflow_mul-positions
 overflow_mul-positions c =
@@ -74,9 +74,9 @@ bounds-slots-from c =
 
 pub returns : goal.returns
 returns c =
-    rw (c.guard_of-guard.ensures, c.from-2.ensures)
-    (in_handover _ _
+    in_handover _ _
     c.find.result (found_by _ _ _ refl c.find.ensures.ran (λ x b q k. search (rules, tests))) c.in_default.is
     c.find-2.result (found_by _ _ _ refl c.find-2.ensures.ran (λ x b q k. search (rules, tests))) c.in_default-find.is
     c.find-carrier.result (found_by _ _ _ refl c.find-carrier.ensures.ran (λ x b q k. search (rules, tests))) c.in_default-carrier.is
-    c.find-left_with.result (found_by _ _ _ refl c.find-left_with.ensures.ran (λ x b q k. search (rules, tests))) _ c.unwrap-position.ensures)
+    c.find-left_with.result (found_by _ _ _ refl c.find-left_with.ensures.ran (λ x b q k. search (rules, tests))) _ c.unwrap-position.ensures
+    _ (rw c.from-2.ensures at c.guard_of-guard.ensures)
