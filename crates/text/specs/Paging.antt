@@ -17,8 +17,8 @@ then a room b = record { same = b.same ∙ a.same; written = appending.then a.wr
 
 -- bytes, and then one byte after them
 module _ {x : List ℕ} {p q : Page} (b : ℕ) (a : Wrote p x q) (room : p.at + length (x ++ b ∷ []) ≤ length p.out.now) where
-  pub room_for_one : q.at < length q.out.now
-  room_for_one = appending.room_for_one b a.written room
+  pub room_for_one : HasRoom 1 q
+  room_for_one = omega (arith, appending.room_for_one b a.written room)
 
   pub then_one : {r : Page} → Wrote q (b ∷ []) r → Wrote p (x ++ b ∷ []) r
   then_one w = then a (omega (arith, length-append x (b ∷ []))) w

@@ -1,6 +1,6 @@
 // A lent buffer and the place in it where the next byte goes.
-ghost use Rattle.std.specs.Prelude.{◌≡◌, ◌+◌, ◌-◌, ◌≤◌, ◌<◌, [], ◌∷◌, SomeIff, length};
-ghost use Rattle.text.specs.Paged.{Wrote, PutWholeOn};
+ghost use Rattle.std.specs.Prelude.{◌≡◌, ◌-◌, ◌≤◌, [], ◌∷◌, SomeIff, length};
+ghost use Rattle.text.specs.Paged.{HasRoom, Wrote, PutWholeOn};
 
 #[derive(Drop)]
 pub struct Page<'a> {
@@ -32,7 +32,7 @@ impl<'a> Page<'a> {
     }
 
     pub(crate) fn put_byte(&mut self, byte: u8)
-        requires { self.old.at < length self.old.out.now }
+        requires { HasRoom 1 self.old }
         ensures { Wrote self.old (byte ∷ []) self.new }
     {
         self.out[self.at] = byte;
