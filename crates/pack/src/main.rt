@@ -7,8 +7,7 @@ mod say;
 ghost use Rattle.std.specs.Prelude.{◌≡◌, length};
 
 use input::read_full;
-use say::{say, say_fault};
-use script::Packed;
+use say::Told;
 use script::packing::pack;
 
 // Room for a text of 1,048,576 bytes and one more, by which a longer one is known.
@@ -25,24 +24,24 @@ fn record_room() -> [u8; 655360]
     [0; 655360]
 }
 
+// Where standard error takes no more there is no one left to tell.
 fn main(rt: HostRuntime) {
     let mut text = text_room();
     let n = read_full(&mut rt.stdin(), &mut text);
     if n == 1048577 {
-        say(
-            &rt.stderr(),
-            b"the text is longer than 1048576 bytes; nothing was packed\n",
-        );
+        let _ = eprintln!(rt; "the text is longer than 1048576 bytes; nothing was packed");
         return;
     }
+    let text = &text[..n];
     let mut records = record_room();
-    let packed = pack(&text[..n], &mut records);
-    match packed {
-        Packed::Done(full) => {
+    match pack(text, &mut records) {
+        Ok(full) => {
             if rt.write_all(&records[..full]).is_err() {
-                say(&rt.stderr(), b"the records could not be written\n");
+                let _ = eprintln!(rt; "the records could not be written");
             }
         }
-        Packed::Bad(line, fault) => say_fault(&rt.stderr(), &text[..n], line, fault),
+        Err(wrong) => {
+            let _ = eprintln!(rt; "{}", Told { text, wrong });
+        }
     }
 }

@@ -1,151 +1,89 @@
-// Says on standard error what is wrong with a line.
-ghost use Rattle.std.specs.Prelude.{◌≡◌, ◌≤◌, length, take};
+// Says in words what is wrong with a line.
+use std::fmt;
 
-use script::{Fault, Place, Why, Word};
+use script::{Fault, Place, Why, Wrong};
 
-// Where it takes no more there is no one left to tell.
-pub fn say(err: &impl Print, words: &[u8]) {
-    let _ = err.write_all(words);
-}
-
-// A byte as it can be shown: one that is no printing character of ASCII shows as a question mark.
-fn shown(b: u8) -> u8 {
-    if b < 33 {
-        return 63;
-    }
-    if b > 126 {
-        return 63;
-    }
-    b
-}
-
-// The first bytes of a word as they can be shown, as many as there is room for, and how many they are.
-fn show(word: &[u8], bytes: &mut [u8]) -> usize
-    ensures within { result ≤ length bytes.new }
-    ensures prefix { result ≡ length (take result bytes.new) }
-{
-    let mut n = 0;
-    while n < word.len() {
-        if n == bytes.len() {
-            break;
-        }
-        bytes[n] = shown(word[n]);
-        n += 1;
-    }
-    n
-}
-
-// A word of the text in quotation marks; of a long one the first 40 bytes.
-fn say_word(err: &impl Print, text: &[u8], word: Word) {
-    let from = word.from;
-    let to = word.to;
-    if from <= to {
-        if to <= text.len() {
-            let mut bytes = [0u8; 40];
-            let n = show(&text[from..to], &mut bytes);
-            say(err, b"'");
-            say(err, &bytes[..n]);
-            say(err, b"'");
-        }
-    }
-}
-
-fn say_place(err: &impl Print, place: Place) {
+fn name(place: Place) -> &'static str {
     match place {
-        Place::Threads => say(err, b"the number of threads"),
-        Place::Slots => say(err, b"the number of slots"),
-        Place::Links => say(err, b"the number of links"),
-        Place::Objects => say(err, b"the number of objects"),
-        Place::Thread => say(err, b"the thread"),
-        Place::Operation => say(err, b"the operation"),
-        Place::Slot => say(err, b"the slot"),
-        Place::Link => say(err, b"the link"),
-        Place::Tag => say(err, b"the tag"),
-        Place::AfterSizes => say(err, b"the line of sizes"),
-        Place::AfterStep => say(err, b"the step"),
-        Place::Whole => say(err, b"the text"),
+        Place::Threads => "the number of threads",
+        Place::Slots => "the number of slots",
+        Place::Links => "the number of links",
+        Place::Objects => "the number of objects",
+        Place::Thread => "the thread",
+        Place::Operation => "the operation",
+        Place::Slot => "the slot",
+        Place::Link => "the link",
+        Place::Tag => "the tag",
+        Place::AfterSizes => "the line of sizes",
+        Place::AfterStep => "the step",
+        Place::Whole => "the text",
     }
 }
 
 // What may stand in a field.
-fn say_range(err: &impl Print, place: Place) {
-    say(err, b"; ");
-    say_place(err, place);
+fn range(place: Place) -> &'static str {
     match place {
-        Place::Tag => say(err, b" is a number from 0 to 4294967295\n"),
-        Place::Slot => say(
-            err,
-            b" is a number from 0 to 255, and in a swap it may be - or none\n",
-        ),
-        _ => say(err, b" is a number from 0 to 255\n"),
+        Place::Tag => "a number from 0 to 4294967295",
+        Place::Slot => "a number from 0 to 255, and in a swap it may be - or none",
+        _ => "a number from 0 to 255",
     }
 }
 
-fn say_missing(err: &impl Print, place: Place) {
-    say_place(err, place);
-    match place {
-        Place::Operation => say(
-            err,
-            b" is missing; a step is a thread, an operation and, where not 0, slot, link and tag\n",
-        ),
-        _ => say(
-            err,
-            b" is missing; the sizes are four numbers: threads, slots, links, objects\n",
-        ),
+const SIZES: &str = "the sizes are four numbers: threads, slots, links, objects";
+
+const STEP: &str = "a step is a thread, an operation and, where not 0, slot, link and tag";
+
+// A word of the text in quotation marks; of a long one the first 40 bytes. A byte that is no printing character of ASCII shows as a
+// question mark.
+#[derive(Clone, Copy)]
+struct Quoted<'a>(Option<&'a [u8]>);
+
+impl fmt::Display for Quoted<'_> {
+    fn fmt<W: fmt::Write>(&self, f: &mut fmt::Formatter<W>) -> fmt::Result {
+        let Some(word) = self.0 else {
+            return Ok(());
+        };
+        f.write_char('\'')?;
+        for &b in word.iter().take(40) {
+            f.write_char(if b.is_ascii_graphic() { char::from(b) } else { '?' })?;
+        }
+        f.write_char('\'')
     }
 }
 
-fn say_too_many(err: &impl Print, place: Place) {
-    match place {
-        Place::AfterSizes => say(
-            err,
-            b" is one word too many; the sizes are four numbers: threads, slots, links, objects\n",
-        ),
-        _ => say(
-            err,
-            b" is one word too many; a step is a thread, an operation and, where not 0, slot, link and tag\n",
-        ),
-    }
+// A line that is wrong, and the text that it stands in.
+#[derive(Clone, Copy)]
+pub struct Told<'a> {
+    pub text: &'a [u8],
+    pub wrong: Wrong,
 }
 
-// A line that is wrong: its number and what is wrong.
-pub fn say_fault(err: &impl Print, text: &[u8], line: usize, fault: Fault) {
-    say(err, b"line ");
-    let _ = err.print(line);
-    say(err, b": ");
-    let why = fault.why;
-    let place = fault.place;
-    let word = fault.word;
-    match why {
-        Why::Missing => say_missing(err, place),
-        Why::NotNumber => {
-            say_word(err, text, word);
-            say(err, b" is not a number");
-            say_range(err, place);
+impl fmt::Display for Told<'_> {
+    fn fmt<W: fmt::Write>(&self, f: &mut fmt::Formatter<W>) -> fmt::Result {
+        let Wrong { line, fault } = self.wrong;
+        let Fault { why, place, word } = fault;
+        let quoted = Quoted(self.text.get(word.from..word.to));
+        write!(f, "line {line}: ")?;
+        match (why, place) {
+            (Why::Missing, Place::Operation) => write!(f, "{} is missing; {STEP}", name(place)),
+            (Why::Missing, _) => write!(f, "{} is missing; {SIZES}", name(place)),
+            (Why::NotNumber, _) => {
+                write!(f, "{quoted} is not a number; {} is {}", name(place), range(place))
+            }
+            (Why::TooLarge, _) => {
+                write!(f, "{quoted} is too large; {} is {}", name(place), range(place))
+            }
+            (Why::NotOperation, _) => write!(
+                f,
+                "{quoted} is not an operation; write take, protect, swap, read, retire, clear or go"
+            ),
+            (Why::TooMany, Place::AfterSizes) => write!(f, "{quoted} is one word too many; {SIZES}"),
+            (Why::TooMany, _) => write!(f, "{quoted} is one word too many; {STEP}"),
+            (Why::NoSizes, _) => write!(
+                f,
+                "the text ends and has no sizes; the first line is four numbers: threads, slots, links, objects"
+            ),
+            (Why::NoRoom, _) => write!(f, "there is room for 65535 steps, and this is one more"),
         }
-        Why::TooLarge => {
-            say_word(err, text, word);
-            say(err, b" is too large");
-            say_range(err, place);
-        }
-        Why::NotOperation => {
-            say_word(err, text, word);
-            say(
-                err,
-                b" is not an operation; write take, protect, swap, read, retire, clear or go\n",
-            );
-        }
-        Why::TooMany => {
-            say_word(err, text, word);
-            say_too_many(err, place);
-        }
-        Why::NoSizes => say(
-            err,
-            b"the text ends and has no sizes; the first line is four numbers: threads, slots, links, objects\n",
-        ),
-        Why::NoRoom => say(
-            err,
-            b"there is room for 65535 steps, and this is one more\n",
-        ),
     }
 }

@@ -9,13 +9,10 @@ use lib.Seq.{length-take-le, drop-drop}
 use lib.Dec.{eqb}
 use Rattle.words.specs.declared.Why.TheVariants.{NoSizes}
 use Rattle.script.specs.declared.Fault.{Fault}
-use Rattle.script.specs.declared.Line.{Line}
-use Rattle.script.specs.declared.Took.{Took}
-use Rattle.script.specs.declared.Took.TheVariants.{Full, Bad}
-use Rattle.script.specs.declared.Packed.{Packed}
-use Rattle.script.specs.declared.Packed.TheVariants as packed
 use Rattle.script.specs.Lines.{line_of}
-use Rattle.script.specs.Packing.{next_line, fault_of, put, added_by, took_of, finish, go_on, pack_from, pack_of, Within}
+use Rattle.std.specs.Prelude.{Ok, Err}
+use Rattle.script.specs.Lines.{Line}
+use Rattle.script.specs.Packing.{Took, Packed, wrong, next_line, fault_of, put, added_by, took_of, finish, go_on, pack_from, pack_of, Within}
 use Rattle.script.proofs.Added.{added_fits, full_then}
 use Rattle.script.proofs.Puts.{put_front, put_back_lem, put_length, put_whole}
 
@@ -96,10 +93,10 @@ module _ (text out₀ : List ℕ) (at number full : ℕ) (out : List ℕ) (g : G
       ∙ drop-drop (length added) full out₀
 
   -- on to the next line
-  pub going_on : (n : ℕ) (out' : List ℕ) (took : Took) → out' ≡ put full added out → took ≡ after → took ≡ Full n → (next : ℕ) → next ≡ next_line text at → at < next → Going text out₀ next (number + 1) n out'
+  pub going_on : (n : ℕ) (out' : List ℕ) (took : Took) → out' ≡ put full added out → took ≡ after → took ≡ Ok n → (next : ℕ) → next ≡ next_line text at → at < next → Going text out₀ next (number + 1) n out'
   unfolding go_on
   going_on n out' took e took_is is_full next next_is later =
-      let all : after ≡ Full n = sym took_is ∙ is_full in
+      let all : after ≡ Ok n = sym took_is ∙ is_full in
       let sized : length (put full added out) ≡ length out = put_length full added out fits in
       let many = g.few in
       let room = fits in
@@ -116,7 +113,7 @@ module _ (text out₀ : List ℕ) (at number full : ℕ) (out : List ℕ) (g : G
       })
 
   -- a line that is wrong
-  pub going_wrong : (fault : Fault) (out' : List ℕ) (took : Took) → out' ≡ put full added out → took ≡ after → took ≡ Bad fault → Promised text out₀ out' (packed.Bad number fault)
+  pub going_wrong : (fault : Fault) (out' : List ℕ) (took : Took) → out' ≡ put full added out → took ≡ after → took ≡ Err fault → Promised text out₀ out' (Err (wrong number fault))
   unfolding go_on
   going_wrong fault out' took e took_is is_wrong =
       let sized : length (put full added out) ≡ length out = put_length full added out fits in
@@ -139,12 +136,12 @@ module _ (text out₀ : List ℕ) (at number full : ℕ) (out : List ℕ) (g : G
   unfolding finish
   end_bytes = rw end_coming (put_whole full out out₀ g.within g.kept)
 
-  pub going_none : full ≡ 0 → Promised text out₀ out (packed.Bad number (fault_of NoSizes))
+  pub going_none : full ≡ 0 → Promised text out₀ out (Err (wrong number (fault_of NoSizes)))
   unfolding finish
   going_none e =
       (rw (end_coming, eq-eqb (length (take full out)) 0 (length-take-le full out g.within ∙ e)), (tt, end_bytes))
 
-  pub going_end : (full ≡ 0 → ⊥) → Promised text out₀ out (packed.Done full)
+  pub going_end : (full ≡ 0 → ⊥) → Promised text out₀ out (Ok full)
   unfolding finish
   going_end e =
       let room = g.within in

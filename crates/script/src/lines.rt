@@ -2,66 +2,66 @@
 ghost use Rattle.std.specs.Prelude.{◌≡◌};
 ghost use Rattle.script.specs.Lines.{sizes_line, step_line, line_of};
 
-use crate::reading::{byte_at, ended, link_at, operation_at, slot_at, tag_at};
-use crate::{Line, Place, Rest};
-use records::{SizesRecord, StepRecord};
+use crate::reading::Fields;
+use crate::{Fault, Place};
+use records::{Record, SizesRecord, StepRecord};
+use words::fields::{byte_or_zero, operation_of, slot_of, tag_of};
 use words::finding::word_at;
+use words::numbers::byte;
 
 // A line of four sizes.
-fn sizes_line(text: &[u8], at: usize) -> Line
+#[tactic(auto, unfolding(crate::specs::Lines::sizes_line, crate::specs::Reading::byte_at))]
+fn sizes_line(text: &[u8], at: usize) -> Result<SizesRecord, Fault>
     ensures { result ≡ sizes_line text.now at }
 {
-    let threads = byte_at(text, Rest::From(at), Place::Threads);
-    let rest = threads.rest;
-    let slots = byte_at(text, rest, Place::Slots);
-    let rest = slots.rest;
-    let links = byte_at(text, rest, Place::Links);
-    let rest = links.rest;
-    let objects = byte_at(text, rest, Place::Objects);
-    let rest = objects.rest;
-    let sizes = Line::Sizes(SizesRecord {
-        threads: threads.value,
-        slots: slots.value,
-        links: links.value,
-        objects: objects.value,
-    });
-    ended(text, rest, Place::AfterSizes, sizes)
+    let mut fields = Fields { text, at };
+    let threads = fields.field(Place::Threads, byte)?;
+    let slots = fields.field(Place::Slots, byte)?;
+    let links = fields.field(Place::Links, byte)?;
+    let objects = fields.field(Place::Objects, byte)?;
+    fields.end(Place::AfterSizes)?;
+    Ok(SizesRecord {
+        threads,
+        slots,
+        links,
+        objects,
+    })
 }
 
 // A line of a step: thread, operation and, where not 0, slot, link and tag.
-fn step_line(text: &[u8], at: usize) -> Line
+#[tactic(auto, unfolding(crate::specs::Lines::step_line, crate::specs::Reading::byte_at, crate::specs::Reading::operation_at, crate::specs::Reading::slot_at, crate::specs::Reading::link_at, crate::specs::Reading::tag_at))]
+fn step_line(text: &[u8], at: usize) -> Result<StepRecord, Fault>
     ensures { result ≡ step_line text.now at }
 {
-    let thread = byte_at(text, Rest::From(at), Place::Thread);
-    let rest = thread.rest;
-    let operation = operation_at(text, rest);
-    let rest = operation.rest;
-    let slot = slot_at(text, rest, operation.value);
-    let rest = slot.rest;
-    let link = link_at(text, rest);
-    let rest = link.rest;
-    let tag = tag_at(text, rest);
-    let rest = tag.rest;
-    let step = Line::Step(StepRecord {
-        thread: thread.value,
-        operation: operation.value,
-        slot: slot.value,
-        link: link.value,
-        tag: tag.value,
-    });
-    ended(text, rest, Place::AfterStep, step)
+    let mut fields = Fields { text, at };
+    let thread = fields.field(Place::Thread, byte)?;
+    let operation = fields.field(Place::Operation, operation_of)?;
+    let slot = fields.field(Place::Slot, |word| slot_of(operation, word))?;
+    let link = fields.field(Place::Link, byte_or_zero)?;
+    let tag = fields.field(Place::Tag, tag_of)?;
+    fields.end(Place::AfterStep)?;
+    Ok(StepRecord {
+        thread,
+        operation,
+        slot,
+        link,
+        tag,
+    })
 }
 
-// What the line from `at` on says; the first that says something has the sizes.
-pub(crate) fn line_at(text: &[u8], at: usize, sizes: bool) -> Line
+// What the line from `at` on says, if it says something; the first that does has the sizes.
+#[tactic(auto, unfolding(crate::specs::Lines::line_of, crate::specs::Lines::lined))]
+pub(crate) fn line_at(text: &[u8], at: usize, sizes: bool) -> Result<Option<Record>, Fault>
     ensures { result ≡ line_of text.now at sizes }
 {
     let word = word_at(text, at);
     if word.from == word.to {
-        return Line::Nothing;
+        return Ok(None);
     }
-    if sizes {
-        return sizes_line(text, at);
-    }
-    step_line(text, at)
+    let record = if sizes {
+        Record::Sizes(sizes_line(text, at)?)
+    } else {
+        Record::Step(step_line(text, at)?)
+    };
+    Ok(Some(record))
 }

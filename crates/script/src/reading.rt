@@ -1,125 +1,54 @@
-// Reads the next field of a line. Where a field before it was wrong, nothing is read and that fault stays.
-ghost use Rattle.std.specs.Prelude.{◌≡◌};
-ghost use Rattle.script.specs.Reading.{next_word, field_of, tag_field_of, byte_at, operation_at, slot_at, link_at, tag_at, ended_of};
+// Reads the fields of a line, one after the other.
+ghost use Rattle.std.specs.Prelude.{◌≡◌, Result};
+ghost use Rattle.std.specs.Fn.{FnOnceReturnsAt};
+ghost use Rattle.words.specs.declared.Why.{Why};
+ghost use Rattle.words.specs.Words.{word_at, bytes_of};
+ghost use Rattle.script.specs.Reading.{placed, after, ended_of};
 
-use crate::{Fault, Field, Line, Place, Rest, Tag};
-use words::fields::{byte_or_zero, operation_of, slot_of, tag_of};
+use crate::{Fault, Place};
 use words::finding::{bytes_of, word_at};
-use words::numbers::byte;
-use words::{Byte, Number, Why, Word};
+use words::Why;
 
-// The next word; one with no bytes where nothing is to be read.
-fn next_word(text: &[u8], rest: Rest) -> Word
-    ensures { result ≡ next_word text.now rest }
-{
-    match rest {
-        Rest::From(at) => word_at(text, at),
-        Rest::Bad(_) => Word { from: 0, to: 0 },
+// What is left of a line: the text from a place on.
+#[derive(Clone, Copy, Debug)]
+pub(crate) struct Fields<'a> {
+    pub text: &'a [u8],
+    pub at: usize,
+}
+
+impl<'a> Fields<'a> {
+    // The next field, as `read` reads its word. What is left is all after the word.
+    #[tactic(auto, unfolding(crate::specs::Reading::placed, crate::specs::Reading::after))]
+    pub(crate) fn field<T, F: FnOnce(&[u8]) -> Result<T, Why>>(
+        &mut self,
+        place: Place,
+        read: F,
+    ) -> Result<T, Fault>
+        requires { F.IsAlwaysCallable read }
+        ensures field { (said : Result T Why)
+            × FnOnceReturnsAt F.FnOnce read (bytes_of self.old.text.now (word_at self.old.text.now self.old.at)) said
+            × (result ≡ placed place (word_at self.old.text.now self.old.at) said) }
+        ensures text { self.new.text ≡ self.old.text }
+        ensures left { self.new.at ≡ after self.old.text.now self.old.at }
+    {
+        let word = word_at(self.text, self.at);
+        self.at = word.to;
+        read(bytes_of(self.text, word)).map_err(|why| Fault { why, place, word })
     }
-}
 
-// The field that a word says.
-fn field(rest: Rest, found: Byte, place: Place, word: Word) -> Field
-    ensures { result ≡ field_of rest found place word }
-{
-    match rest {
-        Rest::From(_) => match found {
-            Byte::Value(value) => Field {
-                value,
-                rest: Rest::From(word.to),
-            },
-            Byte::Bad(why) => Field {
-                value: 0,
-                rest: Rest::Bad(Fault { why, place, word }),
-            },
-        },
-        Rest::Bad(_) => Field { value: 0, rest },
-    }
-}
-
-fn tag_field(rest: Rest, found: Number, word: Word) -> Tag
-    ensures { result ≡ tag_field_of rest found word }
-{
-    match rest {
-        Rest::From(_) => match found {
-            Number::Value(value) => Tag {
-                value,
-                rest: Rest::From(word.to),
-            },
-            Number::Bad(why) => Tag {
-                value: 0,
-                rest: Rest::Bad(Fault {
-                    why,
-                    place: Place::Tag,
-                    word,
-                }),
-            },
-        },
-        Rest::Bad(_) => Tag { value: 0, rest },
-    }
-}
-
-pub(crate) fn byte_at(text: &[u8], rest: Rest, place: Place) -> Field
-    ensures { result ≡ byte_at text.now rest place }
-{
-    let word = next_word(text, rest);
-    field(rest, byte(bytes_of(text, word)), place, word)
-}
-
-pub(crate) fn operation_at(text: &[u8], rest: Rest) -> Field
-    ensures { result ≡ operation_at text.now rest }
-{
-    let word = next_word(text, rest);
-    field(
-        rest,
-        operation_of(bytes_of(text, word)),
-        Place::Operation,
-        word,
-    )
-}
-
-pub(crate) fn slot_at(text: &[u8], rest: Rest, operation: u8) -> Field
-    ensures { result ≡ slot_at text.now rest operation }
-{
-    let word = next_word(text, rest);
-    field(
-        rest,
-        slot_of(operation, bytes_of(text, word)),
-        Place::Slot,
-        word,
-    )
-}
-
-pub(crate) fn link_at(text: &[u8], rest: Rest) -> Field
-    ensures { result ≡ link_at text.now rest }
-{
-    let word = next_word(text, rest);
-    field(rest, byte_or_zero(bytes_of(text, word)), Place::Link, word)
-}
-
-pub(crate) fn tag_at(text: &[u8], rest: Rest) -> Tag
-    ensures { result ≡ tag_at text.now rest }
-{
-    let word = next_word(text, rest);
-    tag_field(rest, tag_of(bytes_of(text, word)), word)
-}
-
-// A line after its last field: one word more is too many.
-pub(crate) fn ended(text: &[u8], rest: Rest, place: Place, line: Line) -> Line
-    ensures { result ≡ ended_of text.now rest place line }
-{
-    match rest {
-        Rest::From(at) => {
-            let word = word_at(text, at);
-            if word.from < word.to {
-                return Line::Bad(Fault {
-                    why: Why::TooMany,
-                    place,
-                    word,
-                });
-            }
-            line
+    // The end of a line: one word more is too many.
+    #[tactic(auto, unfolding(crate::specs::Reading::ended_of, crate::specs::Reading::without_more))]
+    pub(crate) fn end(&self, place: Place) -> Result<(), Fault>
+        ensures { result ≡ ended_of self.now.text.now self.now.at place }
+    {
+        let word = word_at(self.text, self.at);
+        if word.from < word.to {
+            return Err(Fault {
+                why: Why::TooMany,
+                place,
+                word,
+            });
         }
-        Rest::Bad(fault) => Line::Bad(fault),
+        Ok(())
     }
 }

@@ -1,38 +1,25 @@
--- A part of a text, where it may end past the text's end.
-use Prim.Native.Nat.{ℕ, ◌-◌, ◌≤◌, ◌<◌}
-use mathlib.Core.Path.{◌≡◌, refl, sym, ◌∙◌}
-use mathlib.Core.Bool.{Bool, true, false, cond}
-use mathlib.Core.List.{List, []}
-use native.Mathlib.Omega.{arith}
+-- What `get` finds of a text, where a part that is not there has no bytes.
+use Rattle.std.proofs.Common.{ℕ, ◌≡◌, ◌-◌, ◌≤◌, ◌<◌, ◌∙◌, sym, refl, List, [], length, take, drop, Option, Some, None, unwrap_or, Bor, Bool, true, false, ltb, arith, min, length-drop, ⊎_elim}
 use borrow.Author.Tests.{ltb-true, ltb-false}
-use lib.ListN.{length, take, drop, length-drop, drop_of_length-le}
-use lib.Seq.{take_all, take-nil}
-use lib.Dec.{ltb}
-use Rattle.words.specs.declared.Word.{Word}
-use Rattle.words.specs.Words.{least_of, bytes_of}
+use Rattle.std.proofs.Math.Seq.{take_all}
+use Rattle.std.specs.Slice.{IsGetRangeResult}
 
-least_if : (t : Bool) (a b : ℕ) → (t ≡ true → a < b) → (t ≡ false → b ≤ a) → (cond t a b ≤ a) × (cond t a b ≤ b)
-least_if true a b f g = let h = f refl in (omega arith, omega arith)
-least_if false a b f g = let h = g refl in (omega arith, omega arith)
+pub got : (text : List ℕ) (from to : ℕ) (found : Option (Bor (List ℕ))) (none part : Bor (List ℕ)) → IsGetRangeResult text from to found → to ≤ length text → none.now ≡ [] → part ≡ unwrap_or found none → part.now ≡ take (to - from) (drop from text)
+got text from to None none part h fits e same =
+    let empty : to - from ≡ 0 = ⊎_elim (λ s. omega arith) (λ l. omega arith) h.0 in
+    rw (same, e, empty) refl
+got text from to (Some x) none part h fits e same = rw same (h.0.2)
 
-pub least_below : (a b : ℕ) → (least_of a b ≤ a) × (least_of a b ≤ b)
-least_below a b = least_if (ltb a b) a b (ltb-true a b) (ltb-false a b)
-
-some_if : (t : Bool) (text : List ℕ) (from to : ℕ) → (t ≡ false → length text ≤ to) → from < cond t to (length text) → take (cond t to (length text) - from) (drop from text) ≡ take (to - from) (drop from text)
-some_if true text from to g h = refl
-some_if false text from to g h =
-    let more = g refl in
-    let size = length-drop from text in
-    take_all (length text - from) (drop from text) (omega arith) ∙ sym (take_all (to - from) (drop from text) (omega arith))
-
-pub part_some : (text : List ℕ) (word : Word) → word.from < least_of word.to (length text) → take (least_of word.to (length text) - word.from) (drop word.from text) ≡ bytes_of text word
-unfolding bytes_of
-part_some text word h = some_if (ltb word.to (length text)) text word.from word.to (ltb-false word.to (length text)) h
-
-none_if : (t : Bool) (text : List ℕ) (from to : ℕ) → cond t to (length text) ≤ from → [] ≡ take (to - from) (drop from text)
-none_if true text from to h = let none : to - from ≡ 0 = omega arith in rw none
-none_if false text from to h = rw (drop_of_length-le text h, take-nil)
-
-pub part_none : (text : List ℕ) (word : Word) → least_of word.to (length text) ≤ word.from → [] ≡ bytes_of text word
-unfolding bytes_of
-part_none text word h = none_if (ltb word.to (length text)) text word.from word.to h
+-- a part up to where the text ends has all that a longer one has
+pub cut : (text : List ℕ) (from to : ℕ) → take (min to (length text) - from) (drop from text) ≡ take (to - from) (drop from text)
+cut text from to = by_end (ltb to (length text)) (ltb-true _ _) (ltb-false _ _)
+  where
+    by_end : (t : Bool) → (t ≡ true → to < length text) → (t ≡ false → length text ≤ to) → take (min to (length text) - from) (drop from text) ≡ take (to - from) (drop from text)
+    by_end true f g =
+        let before = f refl in
+        let same : min to (length text) ≡ to = omega arith in
+        rw same refl
+    by_end false f g =
+        let past = g refl in
+        let size = length-drop from text in
+        take_all (min to (length text) - from) (drop from text) (omega arith) ∙ sym (take_all (to - from) (drop from text) (omega arith))

@@ -1,21 +1,18 @@
--- A run from a place on: what the loop that walks it needs.
-use Prim.Native.Nat.{ℕ, suc, ◌≤◌, ◌<◌}
-use mathlib.Core.Path.{◌≡◌}
-use mathlib.Core.Bool.{true, false}
-use mathlib.Core.List.{List}
-use lib.ListN.{length, get_or, drop, drop_of_length-le}
-use lib.Seq.{drop-cons}
+-- A run is as long as what `take_while` takes.
+use Rattle.std.proofs.Common.{ℕ, suc, ◌≡◌, ◌+◌, refl, sym, ◌∙◌, List, [], ◌∷◌, cond, Bool, true, false, length, take, arith}
+use Rattle.std.specs.List.{prefix_len}
+use Rattle.std.proofs.lemmas.List.Folds.{length-prefix_len}
 use Rattle.words.specs.declared.Run.{Run}
 use Rattle.words.specs.Words.{kind_of, goes_on, run_of}
 
-pub run_stops : (run : Run) (text : List ℕ) (i : ℕ) → i < length text → goes_on run (kind_of (get_or text i 0)) ≡ false → run_of run (drop i text) ≡ 0
+run_long : (run : Run) (text : List ℕ) → run_of run text ≡ prefix_len (λ b. goes_on run (kind_of b)) text
 unfolding run_of
-run_stops run text i h e = rw (drop-cons text i 0 h) (rw e)
+run_long run [] = refl
+run_long run (b ∷ bs) = rw (run_long run bs) (one_more (goes_on run (kind_of b)) _)
+  where
+    one_more : (t : Bool) (n : ℕ) → cond t (suc n) 0 ≡ cond t (1 + n) 0
+    one_more true n = omega arith
+    one_more false n = refl
 
-pub run_more : (run : Run) (text : List ℕ) (i : ℕ) → i < length text → goes_on run (kind_of (get_or text i 0)) ≡ true → run_of run (drop i text) ≡ suc (run_of run (drop (suc i) text))
-unfolding run_of
-run_more run text i h e = rw (drop-cons text i 0 h) (rw e)
-
-pub run_ends : (run : Run) (text : List ℕ) (i : ℕ) → length text ≤ i → run_of run (drop i text) ≡ 0
-unfolding run_of
-run_ends run text i h = rw (drop_of_length-le text h)
+pub run_taken : (run : Run) (text : List ℕ) → length (take (prefix_len (λ b. goes_on run (kind_of b)) text) text) ≡ run_of run text
+run_taken run text = length-prefix_len (λ b. goes_on run (kind_of b)) text ∙ sym (run_long run text)

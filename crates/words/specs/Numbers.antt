@@ -1,10 +1,7 @@
 -- A word read as a decimal number.
-use Rattle.std.specs.Prelude.{ℕ, ◌+◌, ◌*◌, ◌-◌, List, [], ◌∷◌, Bool, true, ◌&&◌, cond, leb}
+use Rattle.std.specs.Prelude.{ℕ, ◌+◌, ◌*◌, ◌-◌, List, [], ◌∷◌, Bool, true, ◌&&◌, cond, leb, Result, Ok, Err}
+use Rattle.words.specs.declared.Why.{Why}
 use Rattle.words.specs.declared.Why.TheVariants.{Missing, NotNumber, TooLarge}
-use Rattle.words.specs.declared.Number.{Number}
-use Rattle.words.specs.declared.Number.TheVariants.{Value, Bad}
-use Rattle.words.specs.declared.Byte.{Byte}
-use Rattle.words.specs.declared.Byte.TheVariants as byte
 
 -- the digits 0 to 9 are the bytes 48 to 57
 unfoldable pub is_digit : ℕ → Bool
@@ -24,22 +21,18 @@ unfoldable pub worth_of : List ℕ → ℕ
 worth_of word = worth_after 0 word
 
 -- a value that is at most the largest of its field
-unfoldable pub fitting : ℕ → ℕ → Number
-fitting most value = cond (leb value most) (Value value) (Bad TooLarge)
+unfoldable pub fitting : ℕ → ℕ → Result ℕ Why
+fitting most value = cond (leb value most) (Ok value) (Err TooLarge)
 
 -- what a word with bytes says
-unfoldable pub spelled : List ℕ → ℕ → Number
-spelled word most = cond (all_digits word) (fitting most (worth_of word)) (Bad NotNumber)
+unfoldable pub spelled : List ℕ → ℕ → Result ℕ Why
+spelled word most = cond (all_digits word) (fitting most (worth_of word)) (Err NotNumber)
 
 -- what a word says where a number up to `most` is wanted
-unfoldable pub number_of : List ℕ → ℕ → Number
-number_of [] most = Bad Missing
+unfoldable pub number_of : List ℕ → ℕ → Result ℕ Why
+number_of [] most = Err Missing
 number_of (b ∷ bs) most = spelled (b ∷ bs) most
 
 -- a number of one byte
-unfoldable pub as_byte : Number → Byte
-as_byte (Value v) = byte.Value v
-as_byte (Bad why) = byte.Bad why
-
-unfoldable pub byte_of : List ℕ → Byte
-byte_of word = as_byte (number_of word 255)
+unfoldable pub byte_of : List ℕ → Result ℕ Why
+byte_of word = number_of word 255

@@ -1,5 +1,5 @@
 -- The words of a line.
-use Rattle.std.specs.Prelude.{ℕ, suc, ◌+◌, ◌-◌, List, [], ◌∷◌, Bool, true, false, cond, take, drop, eqb, ltb}
+use Rattle.std.specs.Prelude.{ℕ, suc, ◌+◌, ◌-◌, List, [], ◌∷◌, Bool, true, false, cond, take, drop, eqb}
 use Prim.Native.Char.{code}
 use Rattle.words.specs.declared.Kind.{Kind}
 use Rattle.words.specs.declared.Kind.TheVariants as kind
@@ -45,6 +45,3 @@ word_at text at =
 -- a word's bytes
 unfoldable pub bytes_of : List ℕ → Word → List ℕ
 bytes_of text w = take (w.to - w.from) (drop w.from text)
-
-abbrev pub least_of : ℕ → ℕ → ℕ
-least_of a b = cond (ltb a b) a b

@@ -4,51 +4,48 @@ ghost use Rattle.words.specs.Fields.{operation_of, byte_or_zero, slot_of, tag_of
 
 use crate::names::{named, no_slot};
 use crate::numbers::{all_digits, byte, number};
-use crate::{Byte, Number, Why};
+use crate::{Operation, Why};
 
 // An operation is a name, or a number of one byte, which is not judged.
-pub fn operation_of(word: &[u8]) -> Byte
+#[tactic(auto, unfolding(crate::specs::Fields::operation_of, crate::specs::Fields::named_or))]
+pub fn operation_of(word: &[u8]) -> Result<u8, Why>
     ensures { result ≡ operation_of word.now }
 {
-    let name = named(word);
-    if name != 0 {
-        return Byte::Value(name);
+    if let Some(operation) = named(word) {
+        return Ok(operation.number());
     }
     if !all_digits(word) {
-        return Byte::Bad(Why::NotOperation);
+        return Err(Why::NotOperation);
     }
     byte(word)
 }
 
 // A byte; 0 where the line has no word for it.
-pub fn byte_or_zero(word: &[u8]) -> Byte
+#[tactic(auto, unfolding(crate::specs::Fields::byte_or_zero))]
+pub fn byte_or_zero(word: &[u8]) -> Result<u8, Why>
     ensures { result ≡ byte_or_zero word.now }
 {
-    if word.len() == 0 {
-        return Byte::Value(0);
-    }
-    byte(word)
+    if word.is_empty() { Ok(0) } else { byte(word) }
 }
 
 // A slot: a byte, and in a swap also no slot, which is 255.
-pub fn slot_of(operation: u8, word: &[u8]) -> Byte
+#[tactic(auto, unfolding(crate::specs::Fields::slot_of, crate::specs::Names::number_of_operation))]
+pub fn slot_of(operation: u8, word: &[u8]) -> Result<u8, Why>
     ensures { result ≡ slot_of operation word.now }
 {
-    if operation == 3 {
-        if no_slot(word) {
-            return Byte::Value(255);
-        }
-        return byte_or_zero(word);
+    if operation == Operation::Swap.number() && no_slot(word) {
+        return Ok(255);
     }
     byte_or_zero(word)
 }
 
 // A tag has 32 bits; 0 where the line has no word for it.
-pub fn tag_of(word: &[u8]) -> Number
+#[tactic(auto, unfolding(crate::specs::Fields::tag_of))]
+pub fn tag_of(word: &[u8]) -> Result<u32, Why>
     ensures { result ≡ tag_of word.now }
 {
-    if word.len() == 0 {
-        return Number::Value(0);
+    if word.is_empty() {
+        return Ok(0);
     }
-    number(word, 4294967295)
+    number(word, u32::MAX)
 }

@@ -8,7 +8,7 @@ mod names;
 pub mod numbers;
 
 // What a byte is to a line.
-#[derive(Clone, Copy)]
+#[derive(Clone, Copy, Debug, PartialEq, Eq)]
 pub(crate) enum Kind {
     Word,
     Blank,
@@ -18,7 +18,7 @@ pub(crate) enum Kind {
 }
 
 // Bytes that are taken together.
-#[derive(Clone, Copy)]
+#[derive(Clone, Copy, Debug, PartialEq, Eq)]
 pub enum Run {
     Word,
     Blanks,
@@ -27,14 +27,26 @@ pub enum Run {
 }
 
 // Where a word stands in the text: its bytes are those from `from` up to `to`. Where the line has no more words, it has no bytes.
-#[derive(Clone, Copy)]
+#[derive(Clone, Copy, Debug, PartialEq, Eq)]
 pub struct Word {
     pub from: usize,
     pub to: usize,
 }
 
+// The operations of a step, each with its number in a record.
+#[derive(Clone, Copy, Debug, PartialEq, Eq)]
+pub(crate) enum Operation {
+    Take = 1,
+    Protect = 2,
+    Swap = 3,
+    Read = 4,
+    Retire = 5,
+    Clear = 6,
+    GoOn = 7,
+}
+
 // What can be wrong with a line. The first four are found at one word, the last three by those who read whole lines.
-#[derive(Clone, Copy)]
+#[derive(Clone, Copy, Debug, PartialEq, Eq)]
 pub enum Why {
     // a field that must be there is not
     Missing,
@@ -50,18 +62,4 @@ pub enum Why {
     NoSizes,
     // the records do not fit the buffer
     NoRoom,
-}
-
-// What a word says where a number is wanted.
-#[derive(Clone, Copy)]
-pub enum Number {
-    Value(u32),
-    Bad(Why),
-}
-
-// What a word says where a byte is wanted.
-#[derive(Clone, Copy)]
-pub enum Byte {
-    Value(u8),
-    Bad(Why),
 }

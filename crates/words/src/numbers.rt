@@ -1,78 +1,49 @@
 // Reads a word as a decimal number.
-ghost use Rattle.std.specs.Prelude.{◌≡◌, ◌-◌};
-ghost use Rattle.words.specs.Numbers.{is_digit, all_digits, worth_of, fitting, number_of, byte_of};
+ghost use Rattle.std.specs.Prelude.{◌≡◌};
+ghost use Rattle.words.specs.Numbers.{all_digits, worth_of, fitting, number_of, byte_of};
 
-use crate::{Byte, Number, Why};
-
-fn is_digit(b: u8) -> bool
-    ensures { result ≡ is_digit b }
-{
-    if b < 48 {
-        return false;
-    }
-    b <= 57
-}
+use crate::Why;
 
 // Whether each byte of a word is a digit.
 pub(crate) fn all_digits(word: &[u8]) -> bool
     ensures { result ≡ all_digits word.now }
 {
-    let mut i = 0;
-    while i < word.len() {
-        if !is_digit(word[i]) {
-            return false;
-        }
-        i += 1;
-    }
-    true
-}
-
-// What a digit counts.
-fn digit(b: u8) -> u64
-    ensures { result ≡ b - 48 }
-{
-    if b < 48 {
-        return 0;
-    }
-    (b - 48) as u64
+    word.iter().all(|b| b.is_ascii_digit())
 }
 
 // The decimal value of digits, where it is at most `most`. It stops at the digit that makes it larger.
-fn worth(word: &[u8], most: u32) -> Number
+fn worth(word: &[u8], most: u32) -> Result<u32, Why>
     ensures { result ≡ fitting most (worth_of word.now) }
 {
     let mut value: u64 = 0;
-    let mut i = 0;
-    while i < word.len() {
-        value = 10 * value + digit(word[i]);
-        if value > most as u64 {
-            return Number::Bad(Why::TooLarge);
+    for b in word {
+        value = 10 * value + u64::from(b.saturating_sub(b'0'));
+        if value > u64::from(most) {
+            return Err(Why::TooLarge);
         }
-        i += 1;
     }
-    Number::Value(value as u32)
+    Ok(value as u32)
 }
 
 // What a word says where a number up to `most` is wanted.
-pub(crate) fn number(word: &[u8], most: u32) -> Number
+#[tactic(auto, unfolding(crate::specs::Numbers::number_of, crate::specs::Numbers::spelled))]
+pub(crate) fn number(word: &[u8], most: u32) -> Result<u32, Why>
     ensures { result ≡ number_of word.now most }
 {
-    if word.len() == 0 {
-        return Number::Bad(Why::Missing);
+    if word.is_empty() {
+        return Err(Why::Missing);
     }
     if !all_digits(word) {
-        return Number::Bad(Why::NotNumber);
+        return Err(Why::NotNumber);
     }
     worth(word, most)
 }
 
 // What a word says where a number of one byte is wanted.
-pub fn byte(word: &[u8]) -> Byte
+#[tactic(auto, using(crate::proofs::Digits::number_fits), unfolding(crate::specs::Numbers::byte_of))]
+pub fn byte(word: &[u8]) -> Result<u8, Why>
     ensures { result ≡ byte_of word.now }
 {
-    let found = number(word, 255);
-    match found {
-        Number::Value(v) => Byte::Value(v as u8),
-        Number::Bad(why) => Byte::Bad(why),
-    }
+    let value = number(word, u32::from(u8::MAX))?;
+    Ok(value as u8)
 }

@@ -1,27 +1,32 @@
 -- `pack` meets its contract. The invariant is `Going`: the records so far stand at the buffer's front, and what is to come
 -- is what the lines from here on give. The measure is what is left of the text.
+use Rattle.std.proofs.Common.{rules, ◌≡◌, Ok, Err}
+use Rattle.script.specs.declared.Fault.{Fault}
+use Rattle.script.specs.Packing.{wrong}
 use Rattle.script.proofs.Going.{going_start, going_on, going_wrong, going_none, going_end}
 use Rattle.script.proofs.packing.pack.Goals as goal
 
 pub loop-at-init : goal.loop-at-init
 loop-at-init c = going_start _ _
 
-pub returns-in-Bad : goal.returns-in-Bad
-returns-in-Bad c =
-    let call = c.take_line-took in
-    let all = going_wrong _ _ _ _ _ _ c.loop-at.invariant c.loop-at-test.true c.in-Bad.fault _ _ call.ensures.bytes call.ensures.took c.in-Bad.is in
-    record { said = all.0; within = all.1.0; bytes = all.1.1 }
+pub returns-in_err-full : goal.returns-in_err-full
+returns-in_err-full c =
+    let call = c.take_line in
+    let why : (fault : Fault) × (call.result ≡ Err fault) × (c.from_residual.result ≡ Err (wrong c.loop-at.line fault)) = search rules in
+    let all = going_wrong _ _ _ _ _ _ c.loop-at.invariant c.loop-at-test.true why.0 _ _ call.ensures.bytes call.ensures.took why.1 in
+    record { said = rw why.2 all.0; within = rw why.2 all.1.0; bytes = all.1.1 }
 
 pub loop-at-preserved : goal.loop-at-preserved
 loop-at-preserved c =
-    let call = c.take_line-took in
+    let call = c.take_line in
     let next = c.next_line-at in
-    going_on _ _ _ _ _ _ c.loop-at.invariant c.loop-at-test.true _ _ _ call.ensures.bytes call.ensures.took c.in-Full.is _ next.ensures.place next.ensures.later
+    let is_full : call.result ≡ Ok c.in_ok-full.full = search rules in
+    going_on _ _ _ _ _ _ c.loop-at.invariant c.loop-at-test.true _ _ _ call.ensures.bytes call.ensures.took is_full _ next.ensures.place next.ensures.later
 
 pub returns-then-full-eq0 : goal.returns-then-full-eq0
 returns-then-full-eq0 c =
     let all = going_none _ _ _ _ _ _ c.loop-at.invariant c.loop-at-test.false c.if-full-eq0.true in
-    record { said = rw c.fault_of.ensures all.0; within = all.1.0; bytes = all.1.1 }
+    record { said = rw c.of_no_word-fault.ensures all.0; within = all.1.0; bytes = all.1.1 }
 
 pub returns : goal.returns
 returns c =

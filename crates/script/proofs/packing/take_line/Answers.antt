@@ -1,38 +1,30 @@
--- `take_line` meets its contract: by the four cases of what a line says.
-use mathlib.Core.Path.{refl, sym, ◌∙◌}
+-- `take_line` meets its contract: a record is written over the part of the buffer that is not full.
+use Rattle.std.proofs.Common.{refl, sym}
 use Rattle.records.specs.Bytes.{sizes_bytes, step_bytes, low_first}
-use Rattle.script.specs.Packing.{added_by, took_of}
-use Rattle.script.proofs.Puts.{put_none, put_part}
+use Rattle.script.specs.Packing.{added_by}
+use Rattle.script.proofs.Puts.{put_part}
+use Rattle.script.proofs.packing.take_line.Goals.{in-Sizes+in_ok-write_sizes-in-Sizes, in-Step+in_ok-write_step-in-Step}
 use Rattle.script.proofs.packing.take_line.Goals as goal
 
-pub returns-in-Nothing : goal.returns-in-Nothing
-unfolding added_by took_of
-returns-in-Nothing c =
-    let said = sym c.line_at-said.ensures ∙ c.in-Nothing.is in
-    record { took = simp said; bytes = simp said (put_none _ _) }
+pub returns-in_err-write_sizes-in-Sizes-clause-bytes :
+    goal.returns-in_err-write_sizes-in-Sizes-clause-bytes
+unfolding added_by sizes_bytes
+returns-in_err-write_sizes-in-Sizes-clause-bytes c =
+    let out = c.args.out.now in
+    rw (sym c.line_at.ensures, c.in_ok-record.was, c.in-Some.is, c.in-Sizes.is, c.write_sizes.ensures.bytes) (put_part c.args.full (sizes_bytes c.in-Sizes.sizes) out refl c.requires)
 
-pub returns-in-Sizes : goal.returns-in-Sizes
-unfolding added_by took_of sizes_bytes
-returns-in-Sizes c =
-    let said = sym c.line_at-said.ensures ∙ c.in-Sizes.is in
-    record {
-      took = simp said c.full_after.ensures;
-      bytes = simp (said, c.write_sizes.ensures.bytes)
-          (put_part c.args.full (sizes_bytes c.in-Sizes.sizes) c.args.out.now refl c.requires);
-    }
+pub returns-in_err-write_step-in-Step-clause-bytes :
+    goal.returns-in_err-write_step-in-Step-clause-bytes
+unfolding added_by step_bytes low_first
+returns-in_err-write_step-in-Step-clause-bytes c =
+    let out = c.args.out.now in
+    rw (sym c.line_at.ensures, c.in_ok-record.was, c.in-Some.is, c.in-Step.is, c.write_step.ensures.bytes) (put_part c.args.full (step_bytes c.in-Step.step) out refl c.requires)
 
-pub returns-in-Step : goal.returns-in-Step
-unfolding added_by took_of step_bytes low_first
-returns-in-Step c =
-    let said = sym c.line_at-said.ensures ∙ c.in-Step.is in
-    record {
-      took = simp said c.full_after-in-Step.ensures;
-      bytes = simp (said, c.write_step.ensures.bytes)
-          (put_part c.args.full (step_bytes c.in-Step.step) c.args.out.now refl c.requires);
-    }
-
-pub returns-in-Bad : goal.returns-in-Bad
-unfolding added_by took_of
-returns-in-Bad c =
-    let said = sym c.line_at-said.ensures ∙ c.in-Bad.is in
-    record { took = simp said; bytes = simp said (put_none _ _) }
+pub returns-clause-bytes : goal.returns-clause-bytes
+unfolding added_by sizes_bytes step_bytes low_first
+returns-clause-bytes c =
+    let out = c.args.out.now in
+    elim c.match-record.branch [
+      | in-Sizes+in_ok-write_sizes-in-Sizes w ↦ rw (w.out-is, sym c.line_at.ensures, c.in_ok-record.was, c.in-Some.is, w.in-Sizes.is, w.write_sizes.ensures.bytes) (put_part c.args.full (sizes_bytes w.in-Sizes.sizes) out refl c.requires)
+      | in-Step+in_ok-write_step-in-Step w ↦ rw (w.out-is, sym c.line_at.ensures, c.in_ok-record.was, c.in-Some.is, w.in-Step.is, w.write_step.ensures.bytes) (put_part c.args.full (step_bytes w.in-Step.step) out refl c.requires)
+    ]

@@ -1,27 +1,22 @@
--- `past` meets its contract. The invariant: from the present place on the run ends where it ends from `at` on.
-use mathlib.Core.Path.{sym, ◌∙◌}
-use native.Mathlib.Omega.{arith}
-use native.Mathlib.Numerals.{add-one}
-use Rattle.words.proofs.Runs.{run_stops, run_more, run_ends}
+-- `past` meets its contract: from `at` on `take_while` takes the run.
+use Rattle.std.proofs.Common.{rules, tests, refl, ◌≡◌, ◌∙◌, ◌-◌, length, drop, length-drop, arith}
+use Rattle.std.proofs.lemmas.Iterator.{YieldsList-from_slice}
+use Rattle.std.proofs.lemmas.Iterator.Consumers.{count_from_yields_List}
+use Rattle.std.proofs.lemmas.Iterator.Search.{YieldsList-from_take_while}
+use Rattle.std.proofs.Math.Seq.{take_all}
+use Rattle.words.specs.Words.{kind_of, goes_on}
+use Rattle.words.proofs.Parts.{got}
+use Rattle.words.proofs.Runs.{run_taken}
 use Rattle.words.proofs.finding.past.Goals as goal
-
-pub returns-then-not-goes_on : goal.returns-then-not-goes_on
-returns-then-not-goes_on c =
-    let at = c.loop-i in
-    let args = c.args in
-    let stop = run_stops args.run args.text.now at.i (omega arith) (rw c.kind.ensures at (sym c.goes_on.ensures ∙ c.if-not-goes_on.true)) in
-    omega (arith, at.invariant, stop)
-
-pub loop-i-preserved : goal.loop-i-preserved
-loop-i-preserved c =
-    let at = c.loop-i in
-    let args = c.args in
-    let more = run_more args.run args.text.now at.i (omega arith) (rw c.kind.ensures at (sym c.goes_on.ensures ∙ c.if-not-goes_on.false)) in
-    rw add-one (omega (arith, at.invariant, more))
 
 pub returns : goal.returns
 returns c =
-    let at = c.loop-i in
-    let args = c.args in
-    let stop = run_ends args.run args.text.now at.i c.loop-i-test.false in
-    omega (arith, at.invariant, stop)
+    let text = c.args.text.now in
+    let at = c.args.at in
+    let run = c.args.run in
+    let rest = c.unwrap_or-rest.result.now in
+    let rest_is : rest ≡ drop at text =
+    got text at (length text) _ _ c.unwrap_or-rest.result c.get.ensures.lookup (omega arith) refl c.unwrap_or-rest.ensures
+    ∙ take_all (length text - at) (drop at text) (omega (arith, length-drop at text)) in
+    let count_is = count_from_yields_List c.take_while.result _ c.count.ensures.ran (YieldsList-from_take_while _ (λ b. goes_on run (kind_of b)) (YieldsList-from_slice rest cc) c.take_while.ensures.closure c.take_while.ensures.done (λ x b q k. search (rules, tests))) in
+    rw (count_is ∙ run_taken run rest, rest_is) refl
