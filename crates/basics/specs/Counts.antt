@@ -3,10 +3,13 @@ use Prim.Native.Nat.{ℕ, zero, suc, ◌+◌, ◌≤◌, ◌<◌}
 use Rattle.std.proofs.Common.{not-suc-le-zero, le_of_suc-le-suc, add-one, sym, ap, ◌∙◌, length-take, take_all, eq-eqb, ne_eqb}
 use Rattle.std.proofs.Math.Nat.{min-le_left}
 use native.Mathlib.Omega.{arith}
-use Rattle.std.specs.Prelude.{◌≡◌, Bool, true, false, length, get_or, set, take, replicate, eqb}
+use Rattle.std.specs.Prelude.{◌≡◌, Bool, true, false, cond, length, get_or, set, take, replicate, eqb, count_by}
 use Rattle.std.proofs.Math.Path.{refl}
 use mathlib.Core.List.{List, [], ◌∷◌, ◌++◌, map}
 use Rattle.std.proofs.Math.Dec.{eqb-zero-suc}
+use Rattle.basics.specs.Tests.{by_test}
+use Rattle.std.proofs.lemmas.List.Sums.{sum_by-cons}
+use mir.Val.{bool_byte}
 
 -- 1 for yes, 0 for no
 unfoldable pub bit : Bool → ℕ
@@ -202,6 +205,22 @@ count_under_list (x ∷ xs) zero o long = absurd (omega arith)
 count_under_list (x ∷ xs) (suc n) o long =
     count_under_front n (λ i. eqb (get_or (x ∷ xs) i 0) o) ∙
     ap (λ (m : ℕ). bit (eqb x o) + m) (count_under_list xs n o (omega arith))
+
+-- What std says of a byte that is 1 for yes, and of the elements that it counts.
+
+pub bit_byte : (b : Bool) → bool_byte b ≡ bit b
+unfolding bit
+bit_byte true = refl
+bit_byte false = refl
+
+pub counted : {A : Type 0} (test : A → Bool) (xs : List A) → count_by test xs ≡ how_many test xs
+unfolding how_many bit
+counted test [] = refl
+counted test (x ∷ xs) =
+    sum_by-cons (λ x. cond (test x) 1 0) x xs ∙
+    by_test (cond (test x) 1 0 + count_by test xs ≡ how_many test (x ∷ xs)) (test x)
+    (λ yes'. rw (yes', counted test xs))
+    (λ no'. rw (no', counted test xs))
 
 -- of a list of one value that is read as 0, no number above 0 is
 pub none_in_zeros : {A : Type 0} (f : A → ℕ) (x : A) (k m : ℕ) → f x ≡ 0 → occurrences f (suc k) (replicate m x) ≡ 0

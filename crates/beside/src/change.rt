@@ -186,7 +186,7 @@ fn carry_free(seed: usize, mut s: State) -> State {
             let pool = s.pool;
             let old = s.threads[t];
             let was = old.phase;
-            if pool.is_free(object) && entries::is_idle(was) {
+            if pool.is_free(object) && was.is_idle() {
                 let taken = pool.take_out(object);
                 s.pool = taken;
                 s.threads[t] = Thread {

@@ -6,7 +6,7 @@ use compare::Five;
 use machine::{Started, State};
 use plain::{Order, Said, Task};
 use store::Store;
-use twin::{Stepped, Twin};
+use twin::{Refusal, Twin};
 
 // The five places sum to N; those that wait are as many as the history says, and at most T × (H + 1).
 fn sums(f: Five, w: Twin, waiting: usize) -> bool {
@@ -90,15 +90,21 @@ pub fn machine_start(plan: Plan) -> Started {
     )
 }
 
-pub fn twin_start(plan: Plan) -> Stepped {
+pub fn twin_start(plan: Plan) -> twin::Started {
     twin::start(plan.threads, plan.slots, plan.links, plan.objects)
 }
 
-fn compared_start(before: Totals, verdict: usize, mine: Said, s: State, w: Twin) -> Totals {
+fn compared_start(
+    before: Totals,
+    theirs: Option<usize>,
+    ours: Option<Refusal>,
+    s: State,
+    w: Twin,
+) -> Totals {
     let seen = before
-        .see(verdict)
-        .start(verdict == 0)
-        .call(verdict == mine.number);
+        .see(theirs.unwrap_or(0))
+        .start(theirs.is_none())
+        .call(theirs == ours.map(|refusal| refusal.number()));
     let raw = compare::raw(s);
     seen.state(raw == w.raw())
 }
@@ -112,7 +118,7 @@ pub fn schedule(number: usize, totals: Totals) -> Totals {
     let mut state = began.state;
     let mut w = ours.twin;
     let mut store = Store::bare(plan.slots);
-    let mut sum = compared_start(totals, compare::verdict(verdict), ours.said, state, w);
+    let mut sum = compared_start(totals, compare::refused(verdict), ours.refused, state, w);
     for i in 0..256 {
         if i < plan.length {
             let order = draw::order(plan, i, w);

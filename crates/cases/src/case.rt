@@ -1,75 +1,116 @@
-// A call for which one refusal is due and a later one applies too, and the state on which it is made: one in which a thread's
-// call is accepted, but for the two.
-use crate::stage::{Scene, Setting};
-use crate::{stage, table};
-use plain::Order;
+// A call for which one refusal is due and a later one may apply too, and the state on which it is made: one in which a thread's
+// call is accepted, but for these.
+use crate::line::{Facts, Field, Line};
+use crate::setting::Setting;
+use crate::stage::{Doing, Hazard, Scene};
+use machine::State;
+use plain::{Operation, Order};
 
-// `due` and `later` are one where no other applies, and 0 where the call is accepted. `variant` is one of eight: which field of
-// the call is wrong and how, or what the thread is doing.
-#[derive(Clone, Copy)]
+// `due` is None where the call is accepted, and `later` where no other applies. `operation` may be none. `variant` is one of
+// eight: which field of the call is wrong and how, or what the thread is doing.
+#[derive(Clone, Copy, Debug, PartialEq, Eq)]
 pub struct Case {
-    pub due: usize,
-    pub later: usize,
+    pub due: Option<Line>,
+    pub later: Option<Line>,
     pub operation: usize,
     pub variant: usize,
 }
 
 impl Case {
-    pub fn has(self, line: usize) -> bool {
-        (self.due == line) | (self.later == line)
+    fn has(self, line: Line) -> bool {
+        self.due == Some(line) || self.later == Some(line)
+    }
+
+    fn known(self) -> Option<Operation> {
+        Operation::of(self.operation)
+    }
+
+    // Of a wrong field, whether it is wrong by much.
+    fn is_far(self) -> bool {
+        self.variant % 2 == 1
+    }
+
+    // The field that is not used and not 0.
+    fn unused(self) -> Field {
+        match self.variant {
+            0 | 1 => Field::Slot,
+            2 | 3 => Field::Link,
+            _ => Field::Tag,
+        }
     }
 
     // Each kind of doing for a thread that is not idle; for a slot that is not protected a hazard without a mark, or none.
     fn scene(self) -> Scene {
-        let op = self.operation;
-        let busy = self.has(26) | ((op == 7) & !self.has(27));
+        let goes_on = self.known() == Some(Operation::GoOn) && !self.has(Line::Idle);
         Scene {
-            doing: stage::either(busy, self.variant % 8 + 1, 0),
-            full: self.has(28) | ((op == 5) & !self.has(29)),
-            slot: stage::either(self.has(31), self.variant % 2 + 1, 0),
-            none_free: self.has(30),
-            unsound: self.has(19),
+            doing: if goes_on || self.has(Line::Busy) {
+                Doing::BUSY[self.variant % 8]
+            } else {
+                Doing::Idle
+            },
+            full: self.has(Line::HandFull)
+                || self.known() == Some(Operation::Retire) && !self.has(Line::HandEmpty),
+            hazard: if !self.has(Line::NotProtected) {
+                Hazard::Protected
+            } else if self.is_far() {
+                Hazard::Empty
+            } else {
+                Hazard::Unmarked
+            },
+            none_free: self.has(Line::NoneFree),
+            unsound: self.has(Line::Unsound),
         }
     }
 
     // A field that is not used, by the variant the slot, the link or the tag, is 1 or its highest bit alone. One that is used is
     // one past its size, or as large as can be where "255 is good in swap only".
     fn call(self, z: Setting) -> Order {
-        let mut o = stage::call(z, self.operation);
-        let k = self.variant;
-        let far = k % 2 == 1;
-        let most = stage::either(self.operation == 3, 254, 255);
-        let small = stage::either(far, 128, 1);
-        if self.has(21) {
+        let mut o = z.call(self.operation);
+        let far = self.is_far();
+        let swap = self.known() == Some(Operation::Swap);
+        if self.has(Line::NoSuchThread) {
             o.thread = z.threads;
         }
-        if self.has(23) {
-            if k < 2 {
-                o.slot = small;
-            } else if k < 4 {
-                o.link = small;
-            } else {
-                o.tag = stage::either(far, 2147483648, 1);
+        if self.has(Line::UnusedNotZero) {
+            match self.unused() {
+                Field::Slot => o.slot = if far { 1 << 7 } else { 1 },
+                Field::Link => o.link = if far { 1 << 7 } else { 1 },
+                Field::Tag => o.tag = if far { 1 << 31 } else { 1 },
             }
         }
-        if self.has(24) {
-            o.slot = stage::either(far, most, z.slots);
+        if self.has(Line::NoSuchSlot) {
+            o.slot = match far {
+                true if swap => 254,
+                true => 255,
+                false => z.slots,
+            };
         }
-        if self.has(25) {
-            o.link = stage::either(far, 255, z.links);
+        if self.has(Line::NoSuchLink) {
+            o.link = if far { 255 } else { z.links };
         }
-        if self.has(0) & far & (self.operation == 3) {
+        if self.due.is_none() && far && swap {
             o.slot = 255;
         }
         o
     }
 
-    // Whether both machines give what is due, and both lines apply.
-    pub fn shown(self, z: Setting) -> bool {
-        let s = stage::built(z, self.scene());
+    // Whether both machines give what is due, and the later line applies too.
+    pub fn is_shown(self, z: Setting) -> bool {
+        let s = self.scene().built(z);
         let o = self.call(z);
-        let alone = self.due == self.later;
-        table::gives(self.due, s, o)
-            & (alone | table::applies(self.later, table::looked_at(s, o), o))
+        let due = match self.due {
+            Some(line) => line.is_given(s, o),
+            None => is_accepted(s, o),
+        };
+        due && match self.later {
+            Some(line) => line.applies(Facts::of(s, o), o),
+            None => true,
+        }
     }
+}
+
+// By both machines.
+fn is_accepted(s: State, o: Order) -> bool {
+    let both = compare::called(s, o);
+    both.agree() && both.said.number < 19
 }

@@ -1,62 +1,76 @@
 // 23 for each operation and each field that it does not use; 24, 25, 26 and 31 for each operation; and beside them the call
 // that is accepted, from which each of these is one step away.
 use crate::case::Case;
-use crate::seen::{Seen, Tried};
-use crate::{seen, show, stage, table};
-use std::io;
+use crate::line::{Field, Line};
+use crate::table::Table;
+use plain::Operation;
+use std::ops::Range;
 
-fn line(row: usize) -> usize {
-    match row {
-        0 | 1 | 2 => 23,
-        3 => 24,
-        4 => 25,
-        5 => 26,
-        6 => 31,
-        _ => 0,
-    }
+#[derive(Clone, Copy, Debug, PartialEq, Eq)]
+enum Row {
+    Unused(Field),
+    Refused(Line),
+    Accepted,
 }
 
-// The variants of a case in a row: two for each field, the first three rows being a field each; the eight kinds of doing; two
-// kinds of slot that is not protected; and one call that is accepted, but of swap a second that goes without a slot,
-// and of go on one for each kind of doing.
-fn fits(row: usize, op: usize, variant: usize) -> bool {
-    match row {
-        0 | 1 | 2 => !table::uses(op, row) & (variant / 2 == row),
-        3 => table::uses(op, table::SLOT) & (variant < 2),
-        4 => table::uses(op, table::LINK) & (variant < 2),
-        5 => op < 7,
-        6 => ((op == 3) | (op == 4)) & (variant < 2),
-        _ => (variant == 0) | ((op == 3) & (variant == 1)) | (op == 7),
-    }
-}
+const ROWS: [Row; 8] = [
+    Row::Unused(Field::Slot),
+    Row::Unused(Field::Link),
+    Row::Unused(Field::Tag),
+    Row::Refused(Line::NoSuchSlot),
+    Row::Refused(Line::NoSuchLink),
+    Row::Refused(Line::Busy),
+    Row::Refused(Line::NotProtected),
+    Row::Accepted,
+];
 
-// A key is the row × 7 + the operation, from 0. A count is 24 × the variants.
-pub fn nth(n: usize) -> Tried {
-    let row = n / 1344;
-    let op = n / 192 % 7 + 1;
-    let variant = n / 24 % 8;
-    let case = Case {
-        due: line(row),
-        later: line(row),
-        operation: op,
-        variant,
-    };
-    if row < 8 {
-        if fits(row, op, variant) {
-            return seen::under(n / 192, case.shown(stage::chosen(n % 24)));
+impl Row {
+    fn due(self) -> Option<Line> {
+        match self {
+            Row::Unused(_) => Some(Line::UnusedNotZero),
+            Row::Refused(line) => Some(line),
+            Row::Accepted => None,
         }
     }
-    seen::nothing()
+
+    // The variants of a case in a row: two for each field; the eight kinds of doing; two kinds of slot that is not protected; and
+    // one call that is accepted, but of swap a second that goes without a slot, and of go on one for each kind of doing.
+    fn variants(self, operation: Operation) -> Range<usize> {
+        match self {
+            Row::Unused(field) if field.is_used_by(Some(operation)) => 0..0,
+            Row::Unused(Field::Slot) => 0..2,
+            Row::Unused(Field::Link) => 2..4,
+            Row::Unused(Field::Tag) => 4..6,
+            Row::Refused(line) if !line.speaks_of(Some(operation)) => 0..0,
+            Row::Refused(Line::Busy) => 0..8,
+            Row::Refused(_) => 0..2,
+            Row::Accepted => match operation {
+                Operation::Swap => 0..2,
+                Operation::GoOn => 0..8,
+                _ => 0..1,
+            },
+        }
+    }
 }
 
-pub fn show(rt: &impl Print, s: Seen) -> io::Result<()> {
-    let names = [23, 23, 23, 24, 25, 26, 31, 0, 0, 0, 0, 0];
-    show::table(
-        rt,
-        b"refusals seen for operations 1 to 7: 23 for the slot, the link, the tag, 24, 25, 26, 31, and 0 accepted",
-        s,
-        names,
-        56,
-        7,
-    )
+// A column is the operation. A count is 24 × the variants.
+pub fn table() -> Table<8, 7> {
+    let mut table = Table::new(
+        "refusals seen for operations 1 to 7: 23 for the slot, the link, the tag, 24, 25, 26, 31, and 0 accepted",
+        ROWS.map(|row| row.due().map_or(0, |line| line as u8)),
+    );
+    for (place, row) in ROWS.iter().enumerate() {
+        for (column, &operation) in Operation::ALL.iter().enumerate() {
+            for variant in row.variants(operation) {
+                let case = Case {
+                    due: row.due(),
+                    later: None,
+                    operation: operation as usize,
+                    variant,
+                };
+                table.count_each(place, column, |z| case.is_shown(z));
+            }
+        }
+    }
+    table
 }

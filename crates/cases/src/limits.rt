@@ -1,97 +1,49 @@
 // Starting at both sides of both limits of each size, the three others at their limits.
-use crate::seen::{Seen, Tried};
-use crate::{seen, show, stage};
+use crate::setting::{Setting, Side, Size};
+use crate::table::Table;
 use plain::Raw;
-use std::io;
+use twin::Refusal;
 
-// "T threads 1 to 8, H hazard slots per thread 1 to 4, L links 1 to 16, N objects 1 to 240".
-fn most(size: usize) -> usize {
-    match size {
-        0 => 8,
-        1 => 4,
-        2 => 16,
-        _ => 240,
-    }
+// "Starting with a size out of range is refused 20 and returns the blank state."
+fn is_shown(z: Setting, inside: bool) -> bool {
+    let due = if inside { None } else { Some(20) };
+    let theirs = z.start();
+    let ours = twin::start(z.threads, z.slots, z.links, z.objects);
+    let raw = compare::raw(theirs.state);
+    compare::refused(theirs.verdict) == due
+        && ours.refused.map(Refusal::number) == due
+        && raw == ours.twin.raw()
+        && (raw == Raw::EMPTY) != inside
 }
 
-// One below the lower limit, the lower limit, the upper one, one above that.
-pub fn limit(size: usize, side: usize) -> usize {
-    match side {
-        0 => 0,
-        1 => 1,
-        2 => most(size),
-        _ => most(size).saturating_add(1),
+// A row is a size, a column its side. A count is that of the others' limits, 2 × 2 × 2.
+pub fn table() -> Table<4, 4> {
+    let mut table = Table::new(
+        "sizes T to 8, H to 4, L to 16, N to 240 seen: 0 refused, 1 started, the most started, one more refused",
+        Size::ALL.map(Size::most),
+    );
+    for (row, &size) in Size::ALL.iter().enumerate() {
+        for (column, &side) in Side::ALL.iter().enumerate() {
+            for a in Side::LIMITS {
+                for b in Side::LIMITS {
+                    for c in Side::LIMITS {
+                        let [t, h, l, n] = match size {
+                            Size::Threads => [side, a, b, c],
+                            Size::Slots => [a, side, b, c],
+                            Size::Links => [a, b, side, c],
+                            Size::Objects => [a, b, c, side],
+                        };
+                        let z = Setting {
+                            threads: Size::Threads.at(t),
+                            slots: Size::Slots.at(h),
+                            links: Size::Links.at(l),
+                            objects: Size::Objects.at(n),
+                        };
+                        table.count(row, column, is_shown(z, Side::LIMITS.contains(&side)));
+                    }
+                }
+            }
+        }
     }
-}
-
-// One size at one of the four, and the others at the lower or upper limit, by the bits of `others`.
-#[derive(Clone, Copy)]
-struct Sides {
-    size: usize,
-    side: usize,
-    others: usize,
-}
-
-impl Sides {
-    fn of(self, size: usize) -> usize {
-        let k = (size % 4 + 4 - self.size % 4) % 4;
-        let others = self.others;
-        let side = match k {
-            0 => self.side,
-            1 => others % 2 + 1,
-            2 => others / 2 % 2 + 1,
-            _ => others / 4 % 2 + 1,
-        };
-        limit(size, side)
-    }
-
-    // "Starting with a size out of range is refused 20 and returns the blank state."
-    fn shown(self) -> bool {
-        let t = self.of(0);
-        let h = self.of(1);
-        let l = self.of(2);
-        let n = self.of(3);
-        let due = stage::either((self.side == 0) | (self.side == 3), 20, 0);
-        let theirs = machine::start(
-            plain::byte(t),
-            plain::byte(h),
-            plain::byte(l),
-            plain::byte(n),
-        );
-        let verdict = theirs.verdict;
-        let ours = twin::start(t, h, l, n);
-        let said = ours.said;
-        let twin = ours.twin;
-        let raw = compare::raw(theirs.state);
-        let blank = raw == Raw::EMPTY;
-        (compare::verdict(verdict) == due)
-            & (said.number == due)
-            & (raw == twin.raw())
-            & (blank == (due == 20))
-    }
-}
-
-// A key is the size × 4 + the side. A count is that of the others' limits, 2 × 2 × 2.
-pub fn nth(n: usize) -> Tried {
-    let sides = Sides {
-        size: n / 32,
-        side: n / 8 % 4,
-        others: n % 8,
-    };
-    if n < 128 {
-        return seen::under(n / 8, sides.shown());
-    }
-    seen::nothing()
-}
-
-pub fn show(rt: &impl Print, s: Seen) -> io::Result<()> {
-    let names = [8, 4, 16, 240, 0, 0, 0, 0, 0, 0, 0, 0];
-    show::table(
-        rt,
-        b"sizes T to 8, H to 4, L to 16, N to 240 seen: 0 refused, 1 started, the most started, one more refused",
-        s,
-        names,
-        16,
-        4,
-    )
+    table
 }

@@ -2,30 +2,27 @@
 // machines, and held to what 01 asks for.
 #![tactic(auto)]
 
-mod all;
 mod case;
 mod fields;
 mod limits;
+mod line;
 mod order;
 mod reasons;
-mod seen;
-mod show;
+mod setting;
 mod stage;
 mod table;
 
-use all::Table;
 use std::io;
 
 fn main(rt: HostRuntime) -> io::Result<()> {
-    let order = all::of(Table::Order, 0);
-    let fields = all::of(Table::Fields, order.differences);
-    let limits = all::of(Table::Limits, fields.differences);
-    let reasons = all::of(Table::Reasons, limits.differences);
-    order::show(&rt, order)?;
-    fields::show(&rt, fields)?;
-    limits::show(&rt, limits)?;
-    reasons::show(&rt, reasons)?;
-    compare::text(&rt, b"differences ")?;
-    compare::number(&rt, reasons.differences)?;
-    compare::text(&rt, b"\n")
+    let order = order::table();
+    let fields = fields::table();
+    let limits = limits::table();
+    let reasons = reasons::table();
+    println!(rt; "{order}\n{fields}\n{limits}\n{reasons}")?;
+    let differences = u64::from(order.differences)
+        + u64::from(fields.differences)
+        + u64::from(limits.differences)
+        + u64::from(reasons.differences);
+    println!(rt; "differences {differences}")
 }

@@ -1,264 +1,322 @@
 // 01's sentence on soundness, with what request 2 adds to it, clause by clause: for each reason a state that is unsound for it
 // alone, and its sound neighbour.
-use crate::seen::{Seen, Tried};
-use crate::stage::Setting;
-use crate::{limits, seen, show, stage};
+use crate::setting::{Setting, Side, Size};
+use crate::stage::{Doing, Named, Stage};
+use crate::table::Table;
 use entries::Phase;
 use machine::State;
-use std::io;
+use plain::Operation;
 
-// Every `of_..` below gives reason number `k` of its clause: the unsound state where `bad`, and otherwise its neighbour.
+#[derive(Clone, Copy, Debug, PartialEq, Eq)]
+enum Place {
+    Link,
+    Hand,
+    Handover,
+    Carried,
+}
 
-fn with_size(mut z: Setting, size: usize, n: usize) -> Setting {
-    match size {
-        0 => {
-            z.threads = n;
-        }
-        1 => {
-            z.slots = n;
-        }
-        2 => {
-            z.links = n;
-        }
-        _ => {
-            z.objects = n;
+// The number of a phase that is wrong.
+#[derive(Clone, Copy, Debug, PartialEq, Eq)]
+enum Wrong {
+    Slot,
+    Link,
+    ObjectAbove,
+    NoObject,
+    Position,
+}
+
+#[derive(Clone, Copy, Debug, PartialEq, Eq)]
+enum Entry {
+    Link,
+    Hand,
+    Phase,
+    Hazard,
+    Mark,
+    Handover,
+    FreeMark,
+    Tag,
+}
+
+#[derive(Clone, Copy, Debug, PartialEq, Eq)]
+enum Reason {
+    Below(Size),
+    Above(Size),
+    Object(Place),
+    Hazard,
+    Phase(Doing, Wrong),
+    Beyond(Entry),
+    Moved(Place),
+    MarkOnNone,
+    Nowhere,
+    FreeAnd(Place),
+    Two(Place, Place),
+    Blank(Entry),
+}
+
+// In the rows of the table.
+const REASONS: [&[Reason]; 10] = [
+    &[
+        Reason::Below(Size::Threads),
+        Reason::Above(Size::Threads),
+        Reason::Below(Size::Slots),
+        Reason::Above(Size::Slots),
+        Reason::Below(Size::Links),
+        Reason::Above(Size::Links),
+        Reason::Below(Size::Objects),
+        Reason::Above(Size::Objects),
+    ],
+    &[
+        Reason::Object(Place::Link),
+        Reason::Object(Place::Hand),
+        Reason::Object(Place::Handover),
+        Reason::Hazard,
+        Reason::Phase(Doing::Loaded, Wrong::Slot),
+        Reason::Phase(Doing::Loaded, Wrong::Link),
+        Reason::Phase(Doing::Loaded, Wrong::ObjectAbove),
+        Reason::Phase(Doing::Published, Wrong::Slot),
+    ],
+    &[
+        Reason::Phase(Doing::Published, Wrong::Link),
+        Reason::Phase(Doing::Draining, Wrong::Slot),
+        Reason::Phase(Doing::Look, Wrong::ObjectAbove),
+        Reason::Phase(Doing::Look, Wrong::NoObject),
+        Reason::Phase(Doing::Look, Wrong::Position),
+        Reason::Phase(Doing::Swap, Wrong::ObjectAbove),
+        Reason::Phase(Doing::Swap, Wrong::NoObject),
+        Reason::Phase(Doing::Swap, Wrong::Position),
+    ],
+    &[
+        Reason::Phase(Doing::Sweeping, Wrong::Slot),
+        Reason::Phase(Doing::Sweeping, Wrong::Link),
+        Reason::Phase(Doing::SweepLook, Wrong::ObjectAbove),
+        Reason::Phase(Doing::SweepLook, Wrong::NoObject),
+        Reason::Phase(Doing::SweepLook, Wrong::Position),
+        Reason::Phase(Doing::SweepLook, Wrong::Slot),
+        Reason::Phase(Doing::SweepLook, Wrong::Link),
+        Reason::Phase(Doing::SweepSwap, Wrong::ObjectAbove),
+    ],
+    &[
+        Reason::Phase(Doing::SweepSwap, Wrong::NoObject),
+        Reason::Phase(Doing::SweepSwap, Wrong::Position),
+        Reason::Phase(Doing::SweepSwap, Wrong::Slot),
+        Reason::Phase(Doing::SweepSwap, Wrong::Link),
+    ],
+    &[
+        Reason::Beyond(Entry::Link),
+        Reason::Beyond(Entry::Hand),
+        Reason::Beyond(Entry::Phase),
+        Reason::Beyond(Entry::Hazard),
+        Reason::Beyond(Entry::Mark),
+        Reason::Beyond(Entry::Handover),
+        Reason::Beyond(Entry::FreeMark),
+        Reason::Beyond(Entry::Tag),
+    ],
+    &[
+        Reason::Moved(Place::Link),
+        Reason::Moved(Place::Hand),
+        Reason::Moved(Place::Handover),
+        Reason::Moved(Place::Carried),
+        Reason::MarkOnNone,
+        Reason::Nowhere,
+    ],
+    &[
+        Reason::FreeAnd(Place::Link),
+        Reason::FreeAnd(Place::Hand),
+        Reason::FreeAnd(Place::Handover),
+        Reason::FreeAnd(Place::Carried),
+        Reason::Two(Place::Link, Place::Link),
+        Reason::Two(Place::Link, Place::Hand),
+        Reason::Two(Place::Link, Place::Handover),
+        Reason::Two(Place::Link, Place::Carried),
+    ],
+    &[
+        Reason::Two(Place::Hand, Place::Hand),
+        Reason::Two(Place::Hand, Place::Handover),
+        Reason::Two(Place::Hand, Place::Carried),
+        Reason::Two(Place::Handover, Place::Handover),
+        Reason::Two(Place::Handover, Place::Carried),
+        Reason::Two(Place::Carried, Place::Carried),
+    ],
+    &[
+        Reason::Blank(Entry::Link),
+        Reason::Blank(Entry::Hand),
+        Reason::Blank(Entry::Phase),
+        Reason::Blank(Entry::Hazard),
+        Reason::Blank(Entry::Mark),
+        Reason::Blank(Entry::Handover),
+        Reason::Blank(Entry::FreeMark),
+        Reason::Blank(Entry::Tag),
+    ],
+];
+
+impl Place {
+    // An object in the place of this kind that has a number.
+    fn put(self, s: Stage, at: usize, object: usize) -> Stage {
+        match self {
+            Place::Link => s.link(at, object),
+            Place::Hand => s.thread(at, object, Phase::Idle),
+            Place::Handover => s.slot(at, 0, false, object),
+            Place::Carried => {
+                let phase = Phase::Look {
+                    object: plain::byte(object),
+                    position: 0,
+                };
+                s.thread(at, 0, phase)
+            }
         }
     }
-    z
 }
+
+// Every `of_..` below gives a reason of its clause: the unsound state where `bad`, and otherwise its neighbour.
 
 // "its sizes are in range": T, H, L and N, each below and above. With N at 0 nothing is free; with N at 241 object 241, which
 // has no mark, is in a link.
-fn of_sizes(z: Setting, k: usize, bad: bool) -> State {
-    let size = k / 2;
-    let above = k % 2 == 1;
-    let inside = limits::limit(size, stage::either(above, 2, 1));
-    let outside = limits::limit(size, stage::either(above, 3, 0));
-    let good = stage::fresh(with_size(z, size, inside));
+fn of_size(z: Setting, size: Size, limit: Side, past: Side, bad: bool) -> Stage {
+    let good = Stage::fresh(z.with(size, size.at(limit)));
     if !bad {
         return good;
     }
-    let s = stage::resized(good, with_size(z, size, outside));
-    if size < 3 {
-        return s;
-    }
-    if above {
-        stage::link(s, 0, 241)
-    } else {
-        stage::taken(s, 1)
+    let s = good.resized(z.with(size, size.at(past)));
+    match (size, past) {
+        (Size::Objects, Side::Above) => s.link(0, 241),
+        (Size::Objects, _) => s.taken(1),
+        _ => s,
     }
 }
 
-// An object in a place: 2 a link, 3 a hand, 4 a handover, 5 carried.
-fn put(s: State, place: usize, at: usize, object: usize) -> State {
-    match place {
-        2 => stage::link(s, at, object),
-        3 => stage::thread(s, at, object, Phase::Idle),
-        4 => stage::slot(s, at, 0, false, object),
-        _ => stage::thread(s, at, 0, stage::phase(4, 0, 0, object, 0)),
-    }
+// N, or where `bad` one above it.
+fn highest(z: Setting, bad: bool) -> usize {
+    z.objects.saturating_add(usize::from(bad))
 }
 
 // "all numbers above are in range": what is in a link, a hand, a handover, a hazard.
-fn of_objects(z: Setting, k: usize, bad: bool) -> State {
-    let s = stage::fresh(z);
-    let object = stage::either(bad, z.objects.saturating_add(1), z.objects);
-    if k == 3 {
-        return stage::slot(s, 0, object, false, 0);
-    }
-    put(stage::taken(s, object), k % 3 + 2, 0, object)
+fn of_object(z: Setting, place: Place, bad: bool) -> Stage {
+    let object = highest(z, bad);
+    place.put(Stage::fresh(z).taken(object), 0, object)
+}
+
+fn of_hazard(z: Setting, bad: bool) -> Stage {
+    Stage::fresh(z).slot(0, highest(z, bad), false, 0)
 }
 
 // The same of what a thread is in the middle of: Loaded's slot, link and object, Published's slot and link, Draining's slot;
 // Look's object above N, its object 0, its position; and Swap's three. Then, of request 2's "both are in range", Sweeping's slot
 // and link, and for its Look and its Swap those three, slot and link.
-fn doing(k: usize) -> usize {
-    match k {
-        0 | 1 | 2 => 1,
-        3 | 4 => 2,
-        5 => 3,
-        6 | 7 | 8 => 4,
-        9 | 10 | 11 => 5,
-        12 | 13 => 6,
-        14 | 15 | 16 | 17 | 18 => 7,
-        _ => 8,
-    }
-}
-
-// 1 the slot, 2 the link, 3 an object above N, 4 object 0, 5 the position.
-fn wrong(k: usize) -> usize {
-    match k {
-        0 | 3 | 5 | 12 | 17 | 22 => 1,
-        1 | 4 | 13 | 18 | 23 => 2,
-        2 | 6 | 9 | 14 | 19 => 3,
-        7 | 10 | 15 | 20 => 4,
-        _ => 5,
-    }
-}
-
-fn of_phases(z: Setting, k: usize, bad: bool) -> State {
-    let doing = doing(k);
-    let field = stage::either(bad, wrong(k), 0);
-    let looks = (doing == 4) | (doing == 7);
-    let slot = stage::either(field == 1, z.slots, stage::last(z.slots));
-    let link = stage::either(field == 2, z.links, stage::last(z.links));
-    let known = stage::either(field == 4, 0, z.objects);
-    let object = stage::either(field == 3, z.objects.saturating_add(1), known);
-    let end = stage::either(looks, z.positions, stage::last(z.positions));
-    let position = stage::either(field == 5, end.saturating_add(1), end);
-    let fresh = stage::fresh(z);
-    let s = if stage::carries(doing) {
-        stage::taken(fresh, object)
-    } else {
-        fresh
+fn of_phase(z: Setting, doing: Doing, wrong: Wrong, bad: bool) -> Stage {
+    let last = z.last();
+    let mut named = Named {
+        slot: last.slot,
+        link: last.link,
+        object: z.objects,
+        position: if doing.looks() { z.positions() } else { last.position },
     };
-    let phase = stage::phase(doing, slot, link, object, position);
-    stage::thread(s, stage::last(z.threads), 0, phase)
+    if bad {
+        match wrong {
+            Wrong::Slot => named.slot = z.slots,
+            Wrong::Link => named.link = z.links,
+            Wrong::ObjectAbove => named.object = highest(z, true),
+            Wrong::NoObject => named.object = 0,
+            Wrong::Position => named.position = named.position.saturating_add(1),
+        }
+    }
+    let fresh = Stage::fresh(z);
+    let s = if doing.carries() { fresh.taken(named.object) } else { fresh };
+    s.thread(last.thread, 0, doing.phase(named))
 }
 
 // "entries beyond the sizes are 0, idle or unmarked": the first link, hand, phase, hazard, mark, handover, free mark and tag
 // beyond. No object is there, so that none is in two places. A mark there is on a hazard that has to be 0 too.
-fn of_beyond(z: Setting, k: usize, bad: bool) -> State {
-    let s = stage::fresh(z);
-    let above = z.objects.saturating_add(1);
+fn of_beyond(z: Setting, entry: Entry, bad: bool) -> Stage {
+    let s = Stage::fresh(z);
+    let above = highest(z, true);
     if !bad {
         return s;
     }
-    match k {
-        0 => stage::link(s, z.links, above),
-        1 => stage::thread(s, z.threads, above, Phase::Idle),
-        2 => stage::thread(s, z.threads, 0, stage::phase(3, 0, 0, 0, 0)),
-        3 => stage::slot(s, z.positions, 1, false, 0),
-        4 => stage::slot(s, z.positions, 0, true, 0),
-        5 => stage::slot(s, z.positions, 0, false, above),
-        6 => stage::freed(s, above),
-        _ => stage::tag(s, above),
+    match entry {
+        Entry::Link => s.link(z.links, above),
+        Entry::Hand => s.thread(z.threads, above, Phase::Idle),
+        Entry::Phase => s.thread(z.threads, 0, Phase::Draining { slot: 0 }),
+        Entry::Hazard => s.slot(z.positions(), 1, false, 0),
+        Entry::Mark => s.slot(z.positions(), 0, true, 0),
+        Entry::Handover => s.slot(z.positions(), 0, false, above),
+        Entry::FreeMark => s.freed(above),
+        Entry::Tag => s.tag(above),
     }
 }
 
 // The same for an object that is nowhere else: in a link, a hand, a handover beyond the sizes, or carried by a thread beyond.
-fn of_moved(z: Setting, k: usize, bad: bool) -> State {
-    let size = match k {
-        0 => z.links,
-        2 => z.positions,
-        _ => z.threads,
+fn of_moved(z: Setting, place: Place, bad: bool) -> Stage {
+    let size = match place {
+        Place::Link => z.links,
+        Place::Hand | Place::Carried => z.threads,
+        Place::Handover => z.positions(),
     };
-    let at = stage::either(bad, size, stage::last(size));
-    put(stage::taken(stage::fresh(z), 1), k % 4 + 2, at, 1)
+    let at = if bad { size } else { size.saturating_sub(1) };
+    place.put(Stage::fresh(z).taken(1), at, 1)
 }
 
-// "a protected mark stands only on a hazard that is not 0"; then "every object 1 to N is in exactly one place": in none.
-fn of_mark_or_none(z: Setting, k: usize, bad: bool) -> State {
-    let s = stage::fresh(z);
-    if k == 0 {
-        return stage::slot(
-            s,
-            stage::last(z.positions),
-            stage::either(bad, 0, 1),
-            true,
-            0,
-        );
-    }
-    if bad { stage::taken(s, 1) } else { s }
+// "a protected mark stands only on a hazard that is not 0".
+fn of_mark(z: Setting, bad: bool) -> Stage {
+    Stage::fresh(z).slot(z.last().position, usize::from(!bad), true, 0)
+}
+
+// "every object 1 to N is in exactly one place": in none.
+fn of_none(z: Setting, bad: bool) -> Stage {
+    let s = Stage::fresh(z);
+    if bad { s.taken(1) } else { s }
 }
 
 // In two places: free and in a link, a hand, a handover, carried; in a link and each of those; in a hand and a hand, a handover,
 // carried; in a handover and a handover, carried; carried twice. The second is the second of its kind.
-fn of_two(z: Setting, k: usize, bad: bool) -> State {
-    let one = match k {
-        0 | 1 | 2 | 3 => 1,
-        4 | 5 | 6 | 7 => 2,
-        8 | 9 | 10 => 3,
-        11 | 12 => 4,
-        _ => 5,
-    };
-    let other = match k {
-        0 | 4 => 2,
-        1 | 5 | 8 => 3,
-        2 | 6 | 9 | 11 => 4,
-        _ => 5,
-    };
-    let fresh = stage::fresh(z);
-    let s = if one == 1 {
-        fresh
-    } else {
-        put(stage::taken(fresh, 1), one, 0, 1)
-    };
-    if bad { put(s, other, 1, 1) } else { s }
+fn of_two(s: Stage, other: Place, bad: bool) -> Stage {
+    if bad { other.put(s, 1, 1) } else { s }
 }
 
-// "The blank state, all sizes and entries 0, idle and unmarked, is sound too."
-fn blank() -> Setting {
-    Setting {
-        threads: 0,
-        slots: 0,
-        links: 0,
-        objects: 0,
-        positions: 0,
+impl Reason {
+    fn state(self, z: Setting, bad: bool) -> State {
+        let stage = match self {
+            Reason::Below(size) => of_size(z, size, Side::Lowest, Side::Below, bad),
+            Reason::Above(size) => of_size(z, size, Side::Highest, Side::Above, bad),
+            Reason::Object(place) => of_object(z, place, bad),
+            Reason::Hazard => of_hazard(z, bad),
+            Reason::Phase(doing, wrong) => of_phase(z, doing, wrong, bad),
+            Reason::Beyond(entry) => of_beyond(z, entry, bad),
+            Reason::Moved(place) => of_moved(z, place, bad),
+            Reason::MarkOnNone => of_mark(z, bad),
+            Reason::Nowhere => of_none(z, bad),
+            Reason::FreeAnd(other) => of_two(Stage::fresh(z), other, bad),
+            Reason::Two(one, other) => {
+                of_two(one.put(Stage::fresh(z).taken(1), 0, 1), other, bad)
+            }
+            // "The blank state, all sizes and entries 0, idle and unmarked, is sound too."
+            Reason::Blank(entry) => of_beyond(Setting::BLANK, entry, bad),
+        };
+        stage.state
     }
-}
 
-// The clauses, one after the other, in lines of eight reasons.
-fn state(z: Setting, reason: usize, bad: bool) -> State {
-    if reason < 8 {
-        return of_sizes(z, reason, bad);
+    // Both checks, all seven calls and the count.
+    fn is_shown(self, z: Setting, bad: bool) -> bool {
+        let s = self.state(z, bad);
+        Operation::ALL.iter().all(|&operation| {
+            let both = compare::called(s, z.call(operation as usize));
+            both.agree() && both.sound != bad && (both.said.number == 19) == bad
+        })
     }
-    if reason < 12 {
-        return of_objects(z, reason - 8, bad);
-    }
-    if reason < 40 {
-        return of_phases(z, reason - 12, bad);
-    }
-    if reason < 48 {
-        return of_beyond(z, reason - 40, bad);
-    }
-    if reason < 52 {
-        return of_moved(z, reason - 48, bad);
-    }
-    if reason < 56 {
-        return of_mark_or_none(z, reason - 52, bad);
-    }
-    if reason < 72 {
-        return of_two(z, reason - 56, bad);
-    }
-    of_beyond(blank(), reason - 72, bad)
-}
 
-// The fifth line has four reasons, the seventh and the ninth have six. The blank state is there once.
-fn is_case(reason: usize, setting: usize) -> bool {
-    let fifth = (36 <= reason) & (reason < 40);
-    let seventh = (54 <= reason) & (reason < 56);
-    let ninth = (70 <= reason) & (reason < 72);
-    !fifth & !seventh & !ninth & ((reason < 72) | (setting == 0))
-}
-
-// Both checks, all seven calls and the count.
-fn shown(s: State, z: Setting, bad: bool) -> bool {
-    let mut good = true;
-    for op in 1..8 {
-        let b = compare::called(s, stage::call(z, op));
-        good = good & b.agree() & (b.sound != bad) & ((b.said.number == 19) == bad);
-    }
-    good
-}
-
-// A reason has two keys, the first for the unsound states and the second for their neighbours. A count is that of the settings.
-pub fn nth(n: usize) -> Tried {
-    let reason = n / 48;
-    let bad = n / 24 % 2 == 0;
-    let z = stage::chosen(n % 24);
-    if reason < 80 {
-        if is_case(reason, n % 24) {
-            return seen::under(n / 24, shown(state(z, reason, bad), z, bad));
+    // Under one column the unsound states and under the next their neighbours. A count is that of the settings; the blank state
+    // is there once.
+    fn count(self, table: &mut Table<10, 16>, row: usize, column: usize, bad: bool) {
+        if matches!(self, Reason::Blank(_)) {
+            table.count(row, column, self.is_shown(Setting::of(2, 1), bad));
+        } else {
+            table.count_each(row, column, move |z| self.is_shown(z, bad));
         }
     }
-    seen::nothing()
 }
 
-pub fn show(rt: &impl Print, s: Seen) -> io::Result<()> {
-    compare::text(
-        rt,
-        b"states seen that are unsound for one reason, each before its sound neighbours
+pub fn table() -> Table<10, 16> {
+    let mut table = Table::new(
+        "states seen that are unsound for one reason, each before its sound neighbours
   1 T below, above, H below, above, L below, above, N below, above
   2 above N in a link, a hand, a handover, a hazard; Loaded's slot, link, object; Published's slot
   3 Published's link; Draining's slot; Look's object above N, object 0, position; Swap's object above N, object 0, position
@@ -268,15 +326,14 @@ pub fn show(rt: &impl Print, s: Seen) -> io::Result<()> {
   7 an object beyond the sizes in a link, a hand, a handover, carried; a mark on 0; an object nowhere
   8 an object free and in a link, a hand, a handover, carried; in a link and a link, a hand, a handover, carried
   9 in a hand and a hand, a handover, carried; in a handover and a handover, carried; carried twice
-",
-    )?;
-    let names = [1, 2, 3, 4, 5, 6, 7, 8, 9, 10, 0, 0];
-    show::table(
-        rt,
-        b"  10 blank but for a link, a hand, a phase, a hazard, a mark, a handover, a free mark, a tag",
-        s,
-        names,
-        160,
-        16,
-    )
+  10 blank but for a link, a hand, a phase, a hazard, a mark, a handover, a free mark, a tag",
+        [1, 2, 3, 4, 5, 6, 7, 8, 9, 10],
+    );
+    for (row, reasons) in REASONS.iter().enumerate() {
+        for (column, &reason) in (0..16).step_by(2).zip(reasons.iter()) {
+            reason.count(&mut table, row, column, true);
+            reason.count(&mut table, row, column + 1, false);
+        }
+    }
+    table
 }

@@ -10,7 +10,7 @@ pub struct Five {
     pub hands: usize,
     pub handovers: usize,
     pub carried: usize,
-    pub refused: usize,
+    pub refused: Option<usize>,
 }
 
 impl Five {
@@ -21,7 +21,7 @@ impl Five {
         hands: 0,
         handovers: 0,
         carried: 0,
-        refused: 19,
+        refused: Some(19),
     };
 
     pub fn of_first(s: State) -> Five {
@@ -33,7 +33,7 @@ impl Five {
             hands: usize::from(places.hands),
             handovers: usize::from(places.handovers),
             carried: usize::from(places.carried),
-            refused: numbers::verdict(counted.verdict),
+            refused: numbers::refused(counted.verdict),
         }
     }
 
@@ -45,7 +45,7 @@ impl Five {
             hands: counts.hands,
             handovers: counts.handovers,
             carried: counts.carried,
-            refused: 0,
+            refused: None,
         }
     }
 }

@@ -9,6 +9,6 @@ mod work;
 
 pub use both::{Both, called};
 pub use five::Five;
-pub use numbers::{call, raw, said, verdict};
+pub use numbers::{call, raw, refused, said};
 pub use print::{number, text};
 pub use work::fits;

@@ -48,11 +48,11 @@ pub fn said(answer: Answer) -> Said {
     }
 }
 
-// 0 where the verdict is good.
-pub fn verdict(v: Verdict) -> usize {
+// The number of the refusal, None where the verdict is good.
+pub fn refused(v: Verdict) -> Option<usize> {
     match v {
-        Verdict::Good => 0,
-        Verdict::Refused(n) => usize::from(n),
+        Verdict::Good => None,
+        Verdict::Refused(n) => Some(usize::from(n)),
     }
 }
 

@@ -5,6 +5,8 @@ use Rattle.entries.specs.declared.Sizes.{Sizes}
 use Rattle.machine.specs.declared.Call.{Call}
 use Rattle.machine.specs.declared.Outcome.{Outcome}
 use Rattle.machine.specs.declared.Answer.TheVariants.{Refused}
+use Rattle.machine.specs.declared.refusal.Refusal.{Refusal}
+use Rattle.machine.specs.declared.refusal.Refusal.TheVariants.{Unsound}
 use Rattle.entries.specs.Sizes.{in_range}
 use Rattle.machine.specs.Parts.{thread_at}
 use Rattle.machine.specs.Soundness.{sound}
@@ -31,7 +33,7 @@ pub refused_keeps_state : RefusedKeepsState
 refused_keeps_state = refused.keeps_state_lem
 
 -- "The first that applies is given, in this order, and never otherwise."
-pub refused_exactly : (s : State) (c : Call) (k : ℕ) → (step_of s c).answer ≡ Refused k ↔ FirstIs (refusals s c) k
+pub refused_exactly : (s : State) (c : Call) (refusal : Refusal) → (step_of s c).answer ≡ Refused refusal ↔ FirstIs (refusals s c) refusal
 refused_exactly = refused.exactly
 
 -- and a call that no line of the table refuses is done
@@ -39,7 +41,7 @@ pub otherwise_done : (s : State) (c : Call) → NoneApplies (refusals s c) → s
 otherwise_done = refused.otherwise_done
 
 -- no call on a sound state is answered 19
-pub sound_never_19 : (s : State) (c : Call) → sound s ≡ true → (step_of s c).answer ≡ Refused 19 → ⊥
+pub sound_never_19 : (s : State) (c : Call) → sound s ≡ true → (step_of s c).answer ≡ Refused Unsound → ⊥
 sound_never_19 = refused.sound_not_19
 
 -- the fresh machine of any sizes in range is sound

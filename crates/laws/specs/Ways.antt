@@ -5,6 +5,7 @@ use Rattle.machine.specs.declared.State.{State}
 use Rattle.machine.specs.declared.Call.{Call}
 use Rattle.machine.specs.declared.Outcome.{Outcome}
 use Rattle.machine.specs.declared.Answer.TheVariants.{Refused, Taken, Begun, Working, Protected, Nothing, Swapped, Moved, Tag, Finished, Left, Freed}
+use Rattle.machine.specs.declared.refusal.Refusal.{Refusal}
 use Rattle.machine.specs.declared.Work.TheVariants.{Publication, FailedRead, NoMatch, Match, Displacement, Found, FoundNothing}
 use Rattle.entries.specs.declared.Phase.{Phase}
 use Rattle.entries.specs.declared.Phase.TheVariants.{Idle, Loaded, Sweeping, Published, Draining, Look}
@@ -59,7 +60,7 @@ NamesProtected s c = (c.slot ≡ 255 → ⊥) → (named s c < positions s.sizes
 
 pub data Way (s : State) (c : Call) : Outcome → Type 0 where
   -- the first line of the table that applies
-  refused : {k : ℕ} → FirstIs (refusals s c) k → Way s c (outcome s (Refused k))
+  refused : {refusal : Refusal} → FirstIs (refusals s c) refusal → Way s c (outcome s (Refused refusal))
   -- take: what is handed out next goes to the hand
   takes : {o : ℕ} → Does s c 1 → hand s c ≡ 0 → next_of s.pool ≡ o → free_at s o ≡ true
       → Way s c

@@ -6,7 +6,6 @@ ghost use Rattle.text.specs.Paged.{HasRoom, Wrote};
 
 use crate::steps::put_steps;
 use crate::told::{put_sizes, put_stop};
-use machine::Verdict;
 use records::reading::rest;
 use schedule::opening::open;
 use text::page::Page;
@@ -17,13 +16,11 @@ pub(crate) fn put_text(input: &[u8], page: &mut Page<'_>)
     ensures { Wrote page.old (text_of input.now) page.new }
 {
     let opened = open(input);
-    let state = opened.state;
-    let verdict = opened.verdict;
-    match verdict {
-        Verdict::Good => {
-            put_sizes(page, state.sizes);
-            put_steps(rest(input), page, state);
+    match opened.verdict {
+        Ok(()) => {
+            put_sizes(page, opened.state.sizes);
+            put_steps(rest(input), page, opened.state);
         }
-        Verdict::Refused(number) => put_stop(page, 0, number),
+        Err(stop) => put_stop(page, 0, stop.number()),
     }
 }

@@ -9,7 +9,6 @@ ghost use Rattle.text.specs.Paged.{Wrote};
 use crate::told::{put_end, put_step, put_stop};
 use machine::State;
 use records::reading::rest;
-use schedule::Next;
 use schedule::going::next;
 use text::page::Page;
 
@@ -22,13 +21,13 @@ pub(crate) fn put_steps(input: &[u8], page: &mut Page<'_>, state: State)
     let mut now_at = state;
     let mut steps: u32 = 0;
     loop {
-        let found = next(left, steps);
         // what is no call ends the run: a refusal goes to the stop line, the end of the input to the end line
-        let Next::Call(call) = found else {
-            let Next::Stop(number) = found else {
-                return put_end(page, steps, now_at.count().places);
-            };
-            return put_stop(page, steps + 1, number);
+        let found = match next(left, steps) {
+            Ok(found) => found,
+            Err(stop) => return put_stop(page, steps + 1, stop.number()),
+        };
+        let Some(call) = found else {
+            return put_end(page, steps, now_at.count().places);
         };
         let done = now_at.step(call);
         put_step(page, steps + 1, call, done.answer);

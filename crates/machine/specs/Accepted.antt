@@ -1,23 +1,26 @@
 -- The table of refusals, group by group: what it says of a call that no line of a group applies, and "19 or else the rest".
-use Rattle.std.specs.Prelude.{ℕ, zero, suc, ◌<◌, ◌≤◌, ◌≡◌, Bool, true, false, not, ◌&&◌, ◌||◌, ltb, eqb}
+use Rattle.std.specs.Prelude.{ℕ, zero, suc, ◌<◌, ◌≤◌, ◌≡◌, Bool, true, false, not, ◌&&◌, ◌||◌, ltb, eqb, Some, None}
+use Rattle.std.specs.Option.{option_or}
 use Rattle.std.proofs.Common.{arith, sym, ap, ◌∙◌, ltb-true, leb-true, eqb-true}
 use Rattle.std.proofs.Math.Path.{refl}
 use Rattle.std.proofs.lemmas.Bool.{false≢true, eqb-false, not-true, not-false}
 use Rattle.machine.specs.declared.State.{State}
 use Rattle.machine.specs.declared.Call.{Call}
+use Rattle.machine.specs.declared.refusal.Refusal.TheVariants.{Unsound}
 use Rattle.entries.specs.declared.Sizes.{Sizes}
 use Rattle.entries.specs.declared.Thread.{Thread}
 use Rattle.entries.specs.declared.Slot.{Slot}
 use Rattle.pool.specs.declared.Pool.{Pool}
 use Rattle.basics.specs.Tests.{by_test, ands, first_false, second_false}
 use Rattle.basics.specs.Rows.{first_of, NoneApplies, none, pass, all_from}
-use Rattle.basics.proofs.Rows.{none_applies, none_split}
+use Rattle.basics.proofs.Rows.{none_applies, none_split, first_append}
 use Rattle.entries.specs.Sizes.{within}
 use Rattle.entries.specs.Phases.{is_idle}
 use Rattle.pool.specs.Pool.{next_of}
 use Rattle.machine.specs.Parts.{thread_at, slot_at, position_of}
 use Rattle.machine.specs.Soundness.{sound}
-use Rattle.machine.specs.Sound.{Sound, to_sound}
+use Rattle.machine.specs.Sound.{Sound, to_sound, thread_eight, position_fits}
+use Rattle.machine.specs.Answers.{number_of}
 use Rattle.machine.specs.Refusals.{uses_slot, uses_link, without_slot, reads_slot, state_rows, field_rows, thread_rows, object_rows, call_rows, refusals, refusal_of}
 
 -- a number that is not refused for being too large
@@ -82,21 +85,37 @@ pub record Accepted (s : State) (c : Call) : Type 0 where
   pub thread : ThreadPass (thread_at s c.thread) c.operation
   pub objects : ObjectPass (slot_at s (position_of s c.thread c.slot)) s.pool c
 
--- no line's number is 0, which stands for no refusal, and all are above every answer's
-pub refusals_high : (s : State) (c : Call) → all_from 12 (refusals s c) ≡ true
-unfolding refusals state_rows call_rows field_rows thread_rows object_rows all_from
+-- the numbers of all lines are above every answer's
+pub refusals_high : (s : State) (c : Call) → all_from number_of 12 (refusals s c) ≡ true
+unfolding refusals state_rows call_rows field_rows thread_rows object_rows all_from number_of
 refusals_high s c = refl
 
+-- the slots that calls name
+
+pub names_slot : (c : Call) → reads_slot c ≡ true → (uses_slot c.operation ≡ true) × (without_slot c ≡ false)
+unfolding reads_slot uses_slot without_slot
+names_slot c e =
+    by_test ((uses_slot c.operation ≡ true) × (without_slot c ≡ false)) (eqb c.operation 4)
+    (λ reads. (rw (eqb-true c.operation 4 reads), rw (eqb-true c.operation 4 reads)))
+    (λ other.
+    let swaps : (eqb c.operation 3 && not (without_slot c)) ≡ true = left (eqb c.operation 3 && not (without_slot c)) (eqb c.operation 4) e other in
+    let op = eqb-true c.operation 3 (search ands) in
+    (rw op, not-true (without_slot c) (search ands)))
+  where
+    left : (a b : Bool) → (a || b) ≡ true → b ≡ false → a ≡ true
+    left true b h no' = refl
+    left false b h no' = absurd (false≢true (sym no' ∙ h))
+
 module _ (s : State) (c : Call) where
-  pub no_line : refusal_of s c ≡ 0 → NoneApplies (refusals s c)
-  unfolding refusal_of refusals state_rows call_rows field_rows thread_rows object_rows all_from
-  no_line e = none_applies (refusals s c) refl e
+  pub no_line : refusal_of s c ≡ None → NoneApplies (refusals s c)
+  unfolding refusal_of
+  no_line e = none_applies e
 
   is_sound : NoneApplies (state_rows s) → Sound s
   unfolding state_rows
   is_sound (pass r19 none) = to_sound s (not-false (sound s) r19)
 
-  pub accepted : refusal_of s c ≡ 0 → Accepted s c
+  pub accepted : refusal_of s c ≡ None → Accepted s c
   unfolding refusals call_rows
   accepted e =
       let state = none_split (state_rows s) (no_line e) in
@@ -111,13 +130,35 @@ module _ (s : State) (c : Call) where
 
   -- 19 or else the rest
 
-  pub refused_unsound : sound s ≡ false → refusal_of s c ≡ 19
+  pub refused_unsound : sound s ≡ false → refusal_of s c ≡ Some Unsound
   unfolding refusal_of refusals state_rows first_of
   refused_unsound h = rw h
 
   pub else_the_rest : sound s ≡ true → refusal_of s c ≡ first_of (call_rows s c)
   unfolding refusal_of refusals state_rows first_of
   else_the_rest h = rw h
+
+  -- of which the fields' lines come first, then the thread's, then the objects'
+
+  module _ (h : sound s ≡ true) where
+    pub in_turn : refusal_of s c ≡
+        option_or (first_of (field_rows s.sizes c))
+        (option_or (first_of (thread_rows (thread_at s c.thread) c.operation))
+        (first_of (object_rows (slot_at s (position_of s c.thread c.slot)) s.pool c)))
+    unfolding call_rows
+    in_turn = else_the_rest h ∙ first_append _ _ ∙ ap (option_or (first_of (field_rows s.sizes c))) (first_append _ _)
+
+    module _ (fields : first_of (field_rows s.sizes c) ≡ None) where
+      passed : FieldsPass s.sizes c
+      passed = fields_pass s.sizes c (none_applies fields)
+
+      pub small : c.thread < 8
+      small = thread_eight s (to_sound s h).ranged c.thread passed.thread
+
+      pub named_inside : reads_slot c ≡ true → position_of s c.thread c.slot < 32
+      named_inside reads =
+          let names = names_slot c reads in
+          position_fits s (to_sound s h).ranged c.thread c.slot passed.thread (passed.slot names.0 names.1)
 
 -- an accepted call is one of the seven
 pub by_operation : (s : State) (c : Call) → Accepted s c → (P : Type 0) → (c.operation ≡ 1 → P) → (c.operation ≡ 2 → P)
@@ -135,19 +176,3 @@ by_operation s c a P p1 p2 p3 p4 p5 p6 p7 =
     go (suc (suc (suc (suc (suc (suc zero)))))) e low high = p6 e
     go (suc (suc (suc (suc (suc (suc (suc zero))))))) e low high = p7 e
     go (suc (suc (suc (suc (suc (suc (suc (suc n)))))))) e low high = absurd (omega arith)
-
--- the slots that calls name
-
-pub names_slot : (c : Call) → reads_slot c ≡ true → (uses_slot c.operation ≡ true) × (without_slot c ≡ false)
-unfolding reads_slot uses_slot without_slot
-names_slot c e =
-    by_test ((uses_slot c.operation ≡ true) × (without_slot c ≡ false)) (eqb c.operation 4)
-    (λ reads. (rw (eqb-true c.operation 4 reads), rw (eqb-true c.operation 4 reads)))
-    (λ other.
-    let swaps : (eqb c.operation 3 && not (without_slot c)) ≡ true = left (eqb c.operation 3 && not (without_slot c)) (eqb c.operation 4) e other in
-    let op = eqb-true c.operation 3 (search ands) in
-    (rw op, not-true (without_slot c) (search ands)))
-  where
-    left : (a b : Bool) → (a || b) ≡ true → b ≡ false → a ≡ true
-    left true b h no' = refl
-    left false b h no' = absurd (false≢true (sym no' ∙ h))

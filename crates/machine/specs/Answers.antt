@@ -1,11 +1,11 @@
 -- "Where an answer is an enum, a definition gives this paper's number and values for every one of its cases."
-use Rattle.std.specs.Prelude.{ℕ}
+use Rattle.std.specs.Prelude.{ℕ, Result, Ok, Err}
 use Rattle.machine.specs.declared.Answer.{Answer}
 use Rattle.machine.specs.declared.Answer.TheVariants.{Refused, Taken, Begun, Working, Protected, Nothing, Swapped, Moved, Tag, Finished, Left, Freed}
 use Rattle.machine.specs.declared.Work.{Work}
 use Rattle.machine.specs.declared.Work.TheVariants.{Publication, FailedRead, NoMatch, Match, Displacement, Found, FoundNothing}
-use Rattle.machine.specs.declared.Verdict.{Verdict}
-use Rattle.machine.specs.declared.Verdict.TheVariants as verdict
+use Rattle.machine.specs.declared.refusal.Refusal.{Refusal}
+use Rattle.machine.specs.declared.refusal.Refusal.TheVariants.{Unsound, SizeOutOfRange, NoSuchThread, NoSuchOperation, UnusedNotZero, NoSuchSlot, NoSuchLink, Busy, Idle, HandFull, HandEmpty, NoneFree, NotProtected}
 
 -- "Answer (a, b)", its number first
 pub record Numbers : Type 0 where
@@ -27,9 +27,25 @@ work_of (Displacement position) = (5, position)
 work_of (Found position) = (6, position)
 work_of (FoundNothing position) = (7, position)
 
+-- "Refusal numbers"
+unfoldable pub number_of : Refusal → ℕ
+number_of Unsound = 19
+number_of SizeOutOfRange = 20
+number_of NoSuchThread = 21
+number_of NoSuchOperation = 22
+number_of UnusedNotZero = 23
+number_of NoSuchSlot = 24
+number_of NoSuchLink = 25
+number_of Busy = 26
+number_of Idle = 27
+number_of HandFull = 28
+number_of HandEmpty = 29
+number_of NoneFree = 30
+number_of NotProtected = 31
+
 -- "Refusals of a call return a = b = 0"
 unfoldable pub numbers_of : Answer → Numbers
-numbers_of (Refused number) = numbers number 0 0
+numbers_of (Refused refusal) = numbers (number_of refusal) 0 0
 numbers_of (Taken object) = numbers 1 object 0
 numbers_of (Begun object) = numbers 2 object 0
 numbers_of (Working work) = numbers 3 (work_of work).0 (work_of work).1
@@ -43,6 +59,6 @@ numbers_of (Left object position) = numbers 10 object position
 numbers_of (Freed object) = numbers 11 object 0
 
 -- 0 where start or the count is not refused
-unfoldable pub verdict_number : Verdict → ℕ
-verdict_number verdict.Good = 0
-verdict_number (verdict.Refused number) = number
+unfoldable pub verdict_number : Result (Unit {0}) Refusal → ℕ
+verdict_number (Ok done) = 0
+verdict_number (Err refusal) = number_of refusal

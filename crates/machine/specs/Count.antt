@@ -1,10 +1,10 @@
 -- The five places, counted: free, in links, in hands, in handovers, carried. "The count of the five places on an unsound state is refused
 -- 19 with five zeros."
-use Rattle.std.specs.Prelude.{cond}
+use Rattle.std.specs.Prelude.{cond, Ok, Err}
 use Rattle.machine.specs.declared.State.{State}
 use Rattle.machine.specs.declared.Places.{Places}
 use Rattle.machine.specs.declared.Counted.{Counted}
-use Rattle.machine.specs.declared.Verdict.TheVariants.{Good, Refused}
+use Rattle.machine.specs.declared.refusal.Refusal.TheVariants.{Unsound}
 use Rattle.entries.specs.Phases.{carried_by}
 use Rattle.machine.specs.Soundness.{sound}
 use Rattle.basics.specs.Counts.{how_many}
@@ -27,5 +27,5 @@ no_places = record { free = 0; links = 0; hands = 0; handovers = 0; carried = 0 
 unfoldable pub count_of : State → Counted
 count_of s =
     cond (sound s)
-    (record { places = five_places s; verdict = Good })
-    (record { places = no_places; verdict = Refused 19 })
+    (record { places = five_places s; verdict = Ok tt })
+    (record { places = no_places; verdict = Err Unsound })

@@ -1,10 +1,10 @@
 -- "A fresh machine has every object free, tags 0, all else 0 and idle." "Starting with a size out of range is refused 20 and returns the
 -- blank state."
-use Rattle.std.specs.Prelude.{cond, replicate}
+use Rattle.std.specs.Prelude.{cond, replicate, Ok, Err}
 use Rattle.entries.specs.declared.Sizes.{Sizes}
 use Rattle.machine.specs.declared.State.{State}
 use Rattle.machine.specs.declared.Started.{Started}
-use Rattle.machine.specs.declared.Verdict.TheVariants.{Good, Refused}
+use Rattle.machine.specs.declared.refusal.Refusal.TheVariants.{SizeOutOfRange}
 use Rattle.entries.specs.Sizes.{in_range}
 use Rattle.entries.specs.Entries.{idle_thread, empty_slot}
 use Rattle.pool.specs.Pool.{fresh_pool}
@@ -35,5 +35,5 @@ blank =
 unfoldable pub start_of : Sizes → Started
 start_of z =
     cond (in_range z)
-    (record { state = fresh_of z; verdict = Good })
-    (record { state = blank; verdict = Refused 20 })
+    (record { state = fresh_of z; verdict = Ok tt })
+    (record { state = blank; verdict = Err SizeOutOfRange })

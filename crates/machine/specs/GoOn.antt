@@ -6,6 +6,7 @@ use Rattle.machine.specs.declared.State.{State}
 use Rattle.machine.specs.declared.Outcome.{Outcome}
 use Rattle.machine.specs.declared.Answer.{Answer}
 use Rattle.machine.specs.declared.Answer.TheVariants.{Refused, Working, Protected, Nothing, Finished, Left, Freed}
+use Rattle.machine.specs.declared.refusal.Refusal.TheVariants as refusal
 use Rattle.machine.specs.declared.Work.TheVariants.{Publication, FailedRead, NoMatch, Match, Displacement, Found, FoundNothing}
 use Rattle.entries.specs.declared.Phase.{Phase}
 use Rattle.entries.specs.declared.Phase.TheVariants.{Idle, Loaded, Sweeping, Published, Draining, Look, Swap, SweepLook, SweepSwap}
@@ -85,7 +86,7 @@ hand_over_of s t object p =
 
 -- An idle thread has nothing to go on with; refusal 27 comes before this case is reached.
 unfoldable pub go_on_from : State → ℕ → Phase → Outcome
-go_on_from s t Idle = outcome s (Refused 27)
+go_on_from s t Idle = outcome s (Refused refusal.Idle)
 go_on_from s t (Loaded slot link object) = publish_of s t slot link object
 go_on_from s t (Sweeping slot link) = sweep_of s t slot link
 go_on_from s t (Published slot link) = confirm_of s t slot link

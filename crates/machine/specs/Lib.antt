@@ -6,8 +6,10 @@ pub mod Fresh
 pub mod Calls
 pub mod GoOn
 pub mod Answers
+pub mod Operations
 pub mod Refusals
 pub mod Accepted
+pub mod Admits
 pub mod Step
 pub mod Count
 pub mod Computing

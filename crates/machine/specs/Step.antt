@@ -1,8 +1,9 @@
 -- One call on any state: refused by the first line of the table that applies, with "the same state", or done.
-use Rattle.std.specs.Prelude.{cond, eqb}
+use Rattle.std.specs.Prelude.{cond, eqb, Option, Some, None}
 use Rattle.machine.specs.declared.State.{State}
 use Rattle.machine.specs.declared.Call.{Call}
 use Rattle.machine.specs.declared.Outcome.{Outcome}
+use Rattle.machine.specs.declared.refusal.Refusal.{Refusal}
 use Rattle.machine.specs.declared.Answer.TheVariants.{Refused}
 use Rattle.machine.specs.Calls.{outcome, take_of, protect_of, swap_of, read_of, retire_of, clear_of}
 use Rattle.machine.specs.GoOn.{go_on_of}
@@ -20,5 +21,9 @@ done_of s c =
     (go_on_of s c.thread))))))
 
 -- "Refusals of a call return a = b = 0 and the same state."
+unfoldable pub refused_or_done : State → Call → Option Refusal → Outcome
+refused_or_done s c None = done_of s c
+refused_or_done s c (Some refusal) = outcome s (Refused refusal)
+
 unfoldable pub step_of : State → Call → Outcome
-step_of s c = cond (eqb (refusal_of s c) 0) (done_of s c) (outcome s (Refused (refusal_of s c)))
+step_of s c = refused_or_done s c (refusal_of s c)

@@ -3,7 +3,7 @@ ghost use Rattle.std.specs.Prelude.{◌≡◌};
 ghost use Rattle.machine.specs.Count.{count_of};
 
 use crate::soundness::parts_sound;
-use crate::{Counted, Places, State, Verdict};
+use crate::{Counted, Places, Refusal, State};
 use places::{are_carried, in_handovers, in_hands, in_links};
 
 impl State {
@@ -28,7 +28,7 @@ impl State {
                     handovers: 0,
                     carried: 0,
                 },
-                verdict: Verdict::Refused(19),
+                verdict: Err(Refusal::Unsound),
             };
         }
         let links = self.links;
@@ -44,7 +44,7 @@ impl State {
         };
         Counted {
             places,
-            verdict: Verdict::Good,
+            verdict: Ok(()),
         }
     }
 }

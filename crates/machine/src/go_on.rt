@@ -5,7 +5,7 @@ ghost use Rattle.machine.specs.Parts.{link_at, position_of};
 ghost use Rattle.machine.specs.Soundness.{sound};
 ghost use Rattle.machine.specs.GoOn.{publish_of, confirm_of, empty_of, look_of, hand_over_of, go_on_of};
 
-use crate::{Answer, Outcome, State, Work};
+use crate::{Answer, Outcome, Refusal, State, Work};
 use entries::{Phase, Slot, Thread};
 
 impl State {
@@ -233,7 +233,7 @@ impl State {
         match phase {
             Phase::Idle => Outcome {
                 state: self,
-                answer: Answer::Refused(27),
+                answer: Answer::Refused(Refusal::Idle),
             },
             Phase::Loaded { slot, link, object } => self.publish(thread, slot, link, object),
             Phase::Sweeping { slot, link } => {

@@ -5,14 +5,19 @@ mod calls;
 mod count;
 mod fresh;
 mod go_on;
+mod operation;
 mod parts;
+mod refusal;
 mod refusals;
+mod request;
 mod soundness;
 mod step;
 
 use entries::{Sizes, Slot, Thread};
 pub use fresh::start;
+pub use operation::Operation;
 use pool::Pool;
+pub use refusal::Refusal;
 
 #[derive(Clone, Copy)]
 pub struct State {
@@ -24,7 +29,7 @@ pub struct State {
     pub tags: [u32; 240],
 }
 
-#[derive(Clone, Copy)]
+#[derive(Clone, Copy, Debug, PartialEq, Eq)]
 pub struct Call {
     pub thread: u8,
     pub operation: u8,
@@ -33,9 +38,9 @@ pub struct Call {
     pub tag: u32,
 }
 
-#[derive(Clone, Copy)]
+#[derive(Clone, Copy, Debug, PartialEq, Eq)]
 pub enum Answer {
-    Refused(u8),
+    Refused(Refusal),
     Taken(u8),
     Begun(u8),
     Working(Work),
@@ -50,7 +55,7 @@ pub enum Answer {
 }
 
 // What a step that is answered 3 did, and the position concerned: the slot's own, or the one looked at or swapped at.
-#[derive(Clone, Copy)]
+#[derive(Clone, Copy, Debug, PartialEq, Eq)]
 pub enum Work {
     Publication(u8),
     FailedRead(u8),
@@ -68,20 +73,13 @@ pub struct Outcome {
     pub answer: Answer,
 }
 
-// What start and the count of the five places answer: good, or 01's refusal number.
-#[derive(Clone, Copy)]
-pub enum Verdict {
-    Good,
-    Refused(u8),
-}
-
 #[derive(Clone, Copy)]
 pub struct Started {
     pub state: State,
-    pub verdict: Verdict,
+    pub verdict: Result<(), Refusal>,
 }
 
-#[derive(Clone, Copy)]
+#[derive(Clone, Copy, Debug, PartialEq, Eq)]
 pub struct Places {
     pub free: u8,
     pub links: u8,
@@ -93,5 +91,5 @@ pub struct Places {
 #[derive(Clone, Copy)]
 pub struct Counted {
     pub places: Places,
-    pub verdict: Verdict,
+    pub verdict: Result<(), Refusal>,
 }

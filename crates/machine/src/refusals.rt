@@ -1,140 +1,83 @@
 // "The first that applies is given, in this order, and never otherwise."
-ghost use Rattle.std.specs.Prelude.{◌≡◌, true, not, ◌&&◌, ◌+◌, ◌*◌, ◌<◌, get_or};
+ghost use Rattle.std.specs.Prelude.{◌≡◌, true, ◌+◌, ◌*◌, ◌<◌, get_or};
 ghost use Rattle.basics.specs.Rows.{first_of};
 ghost use Rattle.entries.specs.Entries.{empty_slot};
-ghost use Rattle.machine.specs.Refusals.{uses_slot, uses_link, uses_tag, unused_not_zero, without_slot, reads_slot, field_rows, thread_rows, refusal_of};
+ghost use Rattle.machine.specs.Operations.{operation_number};
+ghost use Rattle.machine.specs.Admits.{Refuses, Admits};
+ghost use Rattle.machine.specs.Refusals.{reads_slot, field_rows, thread_rows, object_rows, refusal_of};
 
-use crate::parts::slot_at;
-use crate::{Call, State};
+use crate::request::Request;
+use crate::{Call, Operation, Refusal, State};
 use entries::{Sizes, Slot, Thread};
-
-// the column "Uses"
-
-fn uses_slot(operation: u8) -> bool
-    ensures { result ≡ uses_slot operation }
-{
-    (operation == 2) | (operation == 3) | (operation == 4) | (operation == 6)
-}
-
-fn uses_link(operation: u8) -> bool
-    ensures { result ≡ uses_link operation }
-{
-    (operation == 2) | (operation == 3)
-}
-
-fn uses_tag(operation: u8) -> bool
-    ensures { result ≡ uses_tag operation }
-{
-    operation == 1
-}
-
-fn unused_not_zero(call: Call) -> bool
-    ensures { result ≡ unused_not_zero call }
-{
-    !(uses_slot(call.operation) | (call.slot == 0))
-        | !(uses_link(call.operation) | (call.link == 0))
-        | !(uses_tag(call.operation) | (call.tag == 0))
-}
-
-fn without_slot(call: Call) -> bool
-    ensures { result ≡ without_slot call }
-{
-    (call.operation == 3) & (call.slot == 255)
-}
+use pool::Pool;
 
 // The lines that look at the call's fields and the sizes alone.
-fn field_refusal(sizes: Sizes, call: Call) -> u8
-    ensures { result ≡ first_of (field_rows sizes call) }
+#[tactic(auto, unfolding(crate::specs::Refusals::field_rows, basics::specs::Rows::first_of))]
+fn by_fields(sizes: Sizes, call: Call) -> Result<Request, Refusal>
+    ensures { Admits call (first_of (field_rows sizes call)) result }
 {
-    if sizes.threads <= call.thread {
-        return 21;
+    if call.thread >= sizes.threads {
+        return Err(Refusal::NoSuchThread);
     }
-    if !((1 <= call.operation) & (call.operation <= 7)) {
-        return 22;
+    let operation = Operation::try_from(call.operation)?;
+    let request = Request { call, operation };
+    if request.unused_not_zero() {
+        return Err(Refusal::UnusedNotZero);
     }
-    if unused_not_zero(call) {
-        return 23;
+    if operation.uses_slot() && call.slot >= sizes.slots && !request.without_slot() {
+        return Err(Refusal::NoSuchSlot);
     }
-    if uses_slot(call.operation) & !(call.slot < sizes.slots) & !without_slot(call) {
-        return 24;
+    if operation.uses_link() && call.link >= sizes.links {
+        return Err(Refusal::NoSuchLink);
     }
-    if uses_link(call.operation) & !(call.link < sizes.links) {
-        return 25;
-    }
-    0
+    Ok(request)
 }
 
 // The lines that look at what the thread is in the middle of and at its hand.
-fn thread_refusal(me: Thread, operation: u8) -> u8
-    ensures { result ≡ first_of (thread_rows me operation) }
+#[tactic(auto, unfolding(crate::specs::Operations::operation_number, crate::specs::Refusals::thread_rows, basics::specs::Rows::first_of))]
+fn by_thread(me: Thread, operation: Operation) -> Result<(), Refusal>
+    ensures { Refuses (first_of (thread_rows me (operation_number operation))) result }
 {
     let idle = me.phase.is_idle();
-    let hand = me.hand;
-    if (1 <= operation) & (operation <= 6) & !idle {
-        return 26;
+    match operation {
+        Operation::GoOn if idle => Err(Refusal::Idle),
+        Operation::GoOn => Ok(()),
+        _ if !idle => Err(Refusal::Busy),
+        Operation::Take if me.hand != 0 => Err(Refusal::HandFull),
+        Operation::Retire if me.hand == 0 => Err(Refusal::HandEmpty),
+        _ => Ok(()),
     }
-    if (operation == 7) & idle {
-        return 27;
-    }
-    if (operation == 1) & !(hand == 0) {
-        return 28;
-    }
-    if (operation == 5) & (hand == 0) {
-        return 29;
-    }
-    0
 }
 
-// Whether the call goes by the object of its slot: "swap with a slot, or read"
-fn reads_slot(call: Call) -> bool
-    ensures { result ≡ reads_slot call }
+// The lines that look at the slot that the call names and at what is free; only a take looks for a free object.
+#[tactic(auto, unfolding(crate::specs::Operations::operation_number, crate::specs::Refusals::object_rows, basics::specs::Rows::first_of))]
+fn by_objects(sizes: Sizes, slots: [Slot; 32], pool: Pool, request: Request) -> Result<(), Refusal>
+    requires { reads_slot request.call ≡ true → request.call.thread * sizes.slots + request.call.slot < 32 }
+    ensures { Refuses (first_of (object_rows (get_or slots (request.call.thread * sizes.slots + request.call.slot) empty_slot) pool request.call)) result }
 {
-    ((call.operation == 3) & !without_slot(call)) | (call.operation == 4)
-}
-
-// "swap with a slot, or read: slot not protected"
-fn unprotected(sizes: Sizes, slots: [Slot; 32], call: Call) -> bool
-    requires { reads_slot call ≡ true → call.thread * sizes.slots + call.slot < 32 }
-    ensures { result ≡ (reads_slot call && not (get_or slots (call.thread * sizes.slots + call.slot) empty_slot).mark) }
-{
-    if !reads_slot(call) {
-        return false;
+    if request.unprotected(sizes, slots) {
+        return Err(Refusal::NotProtected);
     }
-    let held = slot_at(slots, sizes.position(call.thread, call.slot));
-    !held.mark
+    if request.operation == Operation::Take && pool.next().is_none() {
+        return Err(Refusal::NoneFree);
+    }
+    Ok(())
 }
 
 impl State {
-    // The number of the first line that applies; 0 where none does.
-    pub(crate) fn refusal(self, call: Call) -> u8
-        ensures { result ≡ refusal_of self call }
+    #[tactic(auto, using(crate::specs::Accepted::refused_unsound, crate::specs::Accepted::in_turn, crate::specs::Accepted::small, crate::specs::Accepted::named_inside))]
+    // The first line that applies, or the request where none does.
+    pub(crate) fn admit(self, call: Call) -> Result<Request, Refusal>
+        ensures { Admits call (refusal_of self call) result }
     {
         if !self.is_sound() {
-            return 19;
+            return Err(Refusal::Unsound);
         }
-        let sizes = self.sizes;
-        let field = field_refusal(sizes, call);
-        if field != 0 {
-            return field;
-        }
-        let t = call.thread as usize;
+        let request = by_fields(self.sizes, call)?;
         // out of a copy of the threads: the compiler copies whatever is read by a number that is worked out, and else that is the state
         let threads = self.threads;
-        let me = threads[t];
-        let busy = thread_refusal(me, call.operation);
-        if busy != 0 {
-            return busy;
-        }
-        let slots = self.slots;
-        if unprotected(sizes, slots, call) {
-            return 31;
-        }
-        // "take: no object free"; only a take looks for one
-        if call.operation == 1 {
-            if self.pool.next().is_none() {
-                return 30;
-            }
-        }
-        0
+        by_thread(threads[usize::from(call.thread)], request.operation)?;
+        by_objects(self.sizes, self.slots, self.pool, request)?;
+        Ok(request)
     }
 }

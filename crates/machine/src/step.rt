@@ -1,39 +1,47 @@
 // One call on any state: refused by the first line of the table that applies, with the same state, or done.
-ghost use Rattle.std.specs.Prelude.{◌≡◌};
+ghost use Rattle.std.specs.Prelude.{◌≡◌, None};
 ghost use Rattle.machine.specs.Refusals.{refusal_of};
 ghost use Rattle.machine.specs.Step.{done_of, step_of};
 
-use crate::{Answer, Call, Outcome, State};
+use crate::request::Request;
+use crate::{Answer, Call, Operation, Outcome, State};
 
 impl State {
     // The effect of a call that is not refused.
-    fn done(self, call: Call) -> Outcome
-        requires { refusal_of self call ≡ 0 }
-        ensures { result ≡ done_of self call }
+    #[tactic(auto, unfolding(crate::specs::Step::done_of, crate::specs::Operations::operation_number, crate::specs::Refusals::uses_slot, crate::specs::Refusals::uses_link, crate::specs::Refusals::without_slot, crate::specs::Refusals::reads_slot))]
+    fn done(self, request: Request) -> Outcome
+        requires { refusal_of self request.call ≡ None }
+        ensures { result ≡ done_of self request.call }
     {
-        let operation = call.operation;
-        match operation {
-            1 => self.take(call.thread, call.tag),
-            2 => self.protect(call.thread, call.slot, call.link),
-            3 => self.swap(call.thread, call.slot, call.link),
-            4 => self.read(call.thread, call.slot),
-            5 => self.retire(call.thread),
-            6 => self.clear(call.thread, call.slot),
-            _ => self.go_on(call.thread),
+        let Call {
+            thread,
+            slot,
+            link,
+            tag,
+            ..
+        } = request.call;
+        match request.operation {
+            Operation::Take => self.take(thread, tag),
+            Operation::Protect => self.protect(thread, slot, link),
+            Operation::Swap => self.swap(thread, slot, link),
+            Operation::Read => self.read(thread, slot),
+            Operation::Retire => self.retire(thread),
+            Operation::Clear => self.clear(thread, slot),
+            Operation::GoOn => self.go_on(thread),
         }
     }
 
+    #[tactic(auto, unfolding(crate::specs::Step::step_of, crate::specs::Step::refused_or_done))]
     // "Each call hands the next state back."
     pub fn step(self, call: Call) -> Outcome
         ensures { result ≡ step_of self call }
     {
-        let number = self.refusal(call);
-        if number != 0 {
-            return Outcome {
+        match self.admit(call) {
+            Ok(request) => self.done(request),
+            Err(refusal) => Outcome {
                 state: self,
-                answer: Answer::Refused(number),
-            };
+                answer: Answer::Refused(refusal),
+            },
         }
-        self.done(call)
     }
 }

@@ -6,6 +6,6 @@ mod num;
 mod raw;
 mod task;
 
-pub use num::{byte, position, word};
+pub use num::{byte, position, put, word};
 pub use raw::Raw;
 pub use task::{Doing, Operation, Order, Said, Task};

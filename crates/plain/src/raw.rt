@@ -1,5 +1,6 @@
 // A state as 01 lists it, in plain numbers, and 01's soundness asked of it: each object is looked for in every place.
 ghost use Rattle.std.specs.Prelude.{◌≤◌, length};
+
 use crate::num;
 use crate::task::{Doing, Task};
 
@@ -31,43 +32,6 @@ fn found(xs: &[u8], object: usize) -> usize
     ensures bound { result ≤ length xs.now }
 {
     xs.iter().filter(|&&x| usize::from(x) == object).count()
-}
-
-// What a task's numbers are held to.
-#[derive(Clone, Copy)]
-struct Most {
-    slots: usize,
-    links: usize,
-    objects: usize,
-    positions: usize,
-}
-
-impl Most {
-    fn slot_and_link(self, task: Task) -> bool {
-        task.slot < self.slots && task.link < self.links
-    }
-
-    // 02: "Such a thread remembers its slot and link through the scan, and soundness asks that both are in range."
-    fn returns(self, task: Task) -> bool {
-        !task.back || self.slot_and_link(task)
-    }
-
-    fn carried(self, task: Task) -> bool {
-        (1..=self.objects).contains(&task.seen) && self.returns(task)
-    }
-
-    // A thread "is idle, or in one of: Loaded(slot, link, object or 0), Published(slot, link), Draining(slot), Look(object,
-    // position 0 to T × H), Swap(object, position below T × H)".
-    fn fits(self, task: Task) -> bool {
-        match task.doing {
-            Doing::Idle => true,
-            Doing::Loaded => self.slot_and_link(task) && task.seen <= self.objects,
-            Doing::Published => self.slot_and_link(task),
-            Doing::Draining => task.slot < self.slots && self.returns(task),
-            Doing::Look => self.carried(task) && task.position <= self.positions,
-            Doing::Swap => self.carried(task) && task.position < self.positions,
-        }
-    }
 }
 
 impl Raw {
@@ -113,20 +77,33 @@ impl Raw {
             && self.tag.iter().skip(n).all(|&tag| tag == 0)
     }
 
+    fn slot_and_link(&self, task: Task) -> bool {
+        task.slot < self.slots && task.link < self.links
+    }
+
+    // 02: "Such a thread remembers its slot and link through the scan, and soundness asks that both are in range."
+    fn returns(&self, task: Task) -> bool {
+        !task.back || self.slot_and_link(task)
+    }
+
+    // A thread "is idle, or in one of: Loaded(slot, link, object or 0), Published(slot, link), Draining(slot), Look(object,
+    // position 0 to T × H), Swap(object, position below T × H)".
+    fn fits(&self, task: Task) -> bool {
+        let carries = (1..=self.objects).contains(&task.seen) && self.returns(task);
+        match task.doing {
+            Doing::Idle => true,
+            Doing::Loaded => self.slot_and_link(task) && task.seen <= self.objects,
+            Doing::Published => self.slot_and_link(task),
+            Doing::Draining => task.slot < self.slots && self.returns(task),
+            Doing::Look => carries && task.position <= self.positions(),
+            Doing::Swap => carries && task.position < self.positions(),
+        }
+    }
+
     fn tasks_fit(&self) -> bool {
-        let most = Most {
-            slots: self.slots,
-            links: self.links,
-            objects: self.objects,
-            positions: self.positions(),
-        };
-        let threads = self.threads;
-        self.task.iter().take(threads).all(|&task| most.fits(task))
-            && self
-                .task
-                .iter()
-                .skip(threads)
-                .all(|task| task.doing == Doing::Idle)
+        let mut used = self.task.iter().take(self.threads);
+        let mut beyond = self.task.iter().skip(self.threads);
+        used.all(|&task| self.fits(task)) && beyond.all(|task| task.doing == Doing::Idle)
     }
 
     // "a protected mark stands only on a hazard that is not 0": so none stands beyond the sizes, where hazards are 0.

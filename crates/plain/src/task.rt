@@ -10,7 +10,8 @@ pub enum Doing {
     Swap,
 }
 
-// Fields that a task does not use are 0. `seen` is the object that Loaded, Look or Swap names. `back` is set where request 2 has
+// One struct for all that a thread can be in the middle of, where the first machine has an enum whose cases carry these numbers: the
+// two are to differ in layout too. Fields that a task does not use are 0. `seen` is the object that Loaded, Look or Swap names. `back` is set where request 2 has
 // the thread return to Published: in the drain that follows a publication, which is called a sweep, and in the scan that comes
 // of it. Their slot and link are those of the protect.
 #[derive(Clone, Copy, Debug, PartialEq, Eq)]
@@ -26,7 +27,7 @@ pub struct Task {
 // 01's operations, 1 to 7.
 #[derive(Clone, Copy, Debug, PartialEq, Eq)]
 pub enum Operation {
-    Take,
+    Take = 1,
     Protect,
     Swap,
     Read,
@@ -45,7 +46,8 @@ pub struct Order {
     pub tag: usize,
 }
 
-// An answer or refusal by 01's number, with its two values.
+// An answer or refusal by 01's number, with its two values. By number, since the papers have the numbers and both machines are held to
+// them: an enum here would be the first machine's once more, and a table of its numbers.
 #[derive(Clone, Copy, Debug, PartialEq, Eq)]
 pub struct Said {
     pub number: usize,
@@ -53,10 +55,20 @@ pub struct Said {
     pub b: usize,
 }
 
-impl Order {
+impl Operation {
+    pub const ALL: [Operation; 7] = [
+        Operation::Take,
+        Operation::Protect,
+        Operation::Swap,
+        Operation::Read,
+        Operation::Retire,
+        Operation::Clear,
+        Operation::GoOn,
+    ];
+
     // None where the number is no operation's.
-    pub fn known(self) -> Option<Operation> {
-        match self.operation {
+    pub fn of(number: usize) -> Option<Operation> {
+        match number {
             1 => Some(Operation::Take),
             2 => Some(Operation::Protect),
             3 => Some(Operation::Swap),
@@ -66,6 +78,12 @@ impl Order {
             7 => Some(Operation::GoOn),
             _ => None,
         }
+    }
+}
+
+impl Order {
+    pub fn known(self) -> Option<Operation> {
+        Operation::of(self.operation)
     }
 }
 

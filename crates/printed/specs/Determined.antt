@@ -19,6 +19,7 @@ use Rattle.text.specs.Fields.{joined}
 use Rattle.text.specs.Words.{filled}
 use Rattle.text.specs.Written.{place_after, buffer_after}
 use Rattle.schedule.specs.Opening.{opened_of}
+use Rattle.schedule.specs.Stopping.{stop_number}
 use Rattle.schedule.specs.Going as going
 use Rattle.lines.specs.Lent as lines
 use Rattle.sentences.specs.Lent as sentences
@@ -97,6 +98,9 @@ tag_of_once = allowed_once _
 
 pub opened_once : Once opened_of
 opened_once = allowed_once _
+
+pub stop_number_once : Once stop_number
+stop_number_once = allowed_once _
 
 pub stands_next_once : (steps : ℕ) → Once (going.next_of steps)
 stands_next_once steps = allowed_once _

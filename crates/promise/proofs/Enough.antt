@@ -6,6 +6,7 @@ use Rattle.std.specs.Prelude.{◌+◌, ◌*◌, ◌≤◌, ◌≡◌, true, List
 use Rattle.entries.specs.declared.Sizes.{Sizes}
 use Rattle.machine.specs.declared.Call.{Call}
 use Rattle.machine.specs.declared.Answer.TheVariants.{Refused}
+use Rattle.machine.specs.declared.refusal.Refusal.TheVariants.{NoneFree}
 use Rattle.entries.specs.Sizes.{in_range}
 use Rattle.machine.specs.Step.{step_of}
 use Rattle.promise.specs.Run.{state}
@@ -13,5 +14,5 @@ use Rattle.promise.proofs.Lemmas.Enough as enough
 
 -- no call of any run is refused 30, "take: no object free"
 pub enough_records : (z : Sizes) → in_range z ≡ true → z.links + 2 * z.threads + z.threads * z.slots ≤ z.objects + 1
-    → (calls : List Call) (next : Call) → (step_of (state z calls) next).answer ≡ Refused 30 → ⊥
+    → (calls : List Call) (next : Call) → (step_of (state z calls) next).answer ≡ Refused NoneFree → ⊥
 enough_records = enough.enough_records

@@ -5,6 +5,7 @@ use Rattle.std.specs.Prelude.{ℕ, ◌+◌, ◌*◌, ◌-◌, ◌<◌, ◌≤◌
 use Rattle.entries.specs.declared.Sizes.{Sizes}
 use Rattle.machine.specs.declared.Call.{Call}
 use Rattle.machine.specs.declared.Answer.TheVariants.{Refused, Freed}
+use Rattle.machine.specs.declared.refusal.Refusal.TheVariants.{Unsound}
 use Rattle.entries.specs.Sizes.{positions}
 use Rattle.machine.specs.Parts.{slot_at}
 use Rattle.machine.specs.Count.{five_places}
@@ -42,7 +43,7 @@ pub record Promised (machine : Machine) (z : Sizes) (calls : List Call) : Type 0
       let p = five_places (end_of machine z calls) in
       p.free + p.links + p.hands + p.handovers + p.carried ≡ z.objects
   -- no call is answered 19
-  pub never_unsound : (next : Call) → (machine (end_of machine z calls) next).answer ≡ Refused 19 → ⊥
+  pub never_unsound : (next : Call) → (machine (end_of machine z calls) next).answer ≡ Refused Unsound → ⊥
   -- when an object is freed, no link, no hand and no protected slot holds it
   pub freed_unheld : (next : Call) (object : ℕ) → (machine (end_of machine z calls) next).answer ≡ Freed object
       → Unheld (end_of machine z calls) object × Unheld (machine (end_of machine z calls) next).state object

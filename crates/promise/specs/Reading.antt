@@ -16,7 +16,7 @@ no_takes = record { takes = 0; last = λ object. 0 }
 -- a Taken answer is the next take, of that object
 unfoldable pub noted : Reading → Answer → Reading
 noted r (Taken object) = record { takes = suc r.takes; last = put r.last object (suc r.takes) }
-noted r (Refused number) = r
+noted r (Refused refusal) = r
 noted r (Begun object) = r
 noted r (Working work) = r
 noted r (Protected object tag) = r
@@ -38,7 +38,7 @@ record_of r object = cond (eqb object 0) 0 (r.last object)
 
 -- an answer with the record's number in the place of the object's
 unfoldable pub renamed : Reading → Answer → Answer
-renamed r (Refused number) = Refused number
+renamed r (Refused refusal) = Refused refusal
 renamed r (Taken object) = Taken (record_of r object)
 renamed r (Begun object) = Begun (record_of r object)
 renamed r (Working work) = Working work

@@ -2,6 +2,5 @@
 pub mod Promise
 pub mod Bench
 pub mod Lemmas
-pub mod Outside
-pub mod Scan
+pub mod Found
 pub mod Picks

@@ -1,5 +1,5 @@
 -- What is promised of `why`, beside its contract that it answers `why_of`. These are the statements to read; their proofs are names.
-use Rattle.std.specs.Prelude.{ℕ, ◌<◌, ◌≤◌, ◌≡◌, true, ◌↔◌}
+use Rattle.std.specs.Prelude.{ℕ, ◌<◌, ◌≤◌, ◌≡◌, true, ◌↔◌, Option, None, Result, Ok, Err}
 use Rattle.machine.specs.declared.State.{State}
 use Rattle.entries.specs.Sizes.{positions}
 use Rattle.machine.specs.Parts.{free_at}
@@ -7,10 +7,8 @@ use Rattle.machine.specs.Soundness.{sound}
 use Rattle.basics.specs.Rows.{FirstIs}
 use Rattle.basics.specs.Functions.{allowed_once}
 use Rattle.reasons.specs.declared.Reason.{Reason}
-use Rattle.reasons.specs.declared.Hazard.{Hazard}
-use Rattle.reasons.specs.declared.Hazard.TheVariants.{Nowhere}
-use Rattle.reasons.specs.declared.Explained.{Explained}
-use Rattle.reasons.specs.declared.Explained.TheVariants.{Kept, Refused}
+use Rattle.reasons.specs.declared.Kept.{Kept}
+use Rattle.reasons.specs.declared.NotKept.{NotKept}
 use Rattle.reasons.specs.Reasons.{reason_of, hazard_of, refusals, why_of}
 use Rattle.reasons.specs.Numbers.{numbers_of}
 use Rattle.reasons.specs.Applies.{Stays, Applies, NoHazard, FirstHazard}
@@ -29,22 +27,22 @@ pub free_has_none : (s : State) → sound s ≡ true → (o : ℕ) → 0 < o →
 free_has_none = told.free_has_none
 
 -- "the first position in scan order that holds it as a hazard, or none", on any state
-pub one_hazard : (s : State) (o : ℕ) → FirstHazard s o (hazard_of s o) × ((h : Hazard) → FirstHazard s o h → h ≡ hazard_of s o)
+pub one_hazard : (s : State) (o : ℕ) → FirstHazard s o (hazard_of s o) × ((h : Option ℕ) → FirstHazard s o h → h ≡ hazard_of s o)
 one_hazard s o = (hazards.first_hazard s o, hazards.only_hazard s o)
 
 -- none is said exactly when no slot holds it as a hazard
-pub nowhere_exactly : (s : State) (o : ℕ) → hazard_of s o ≡ Nowhere ↔ NoHazard s o (positions s.sizes)
+pub nowhere_exactly : (s : State) (o : ℕ) → hazard_of s o ≡ None ↔ NoHazard s o (positions s.sizes)
 nowhere_exactly = hazards.nowhere_exactly
 
 -- "Refusals: 19, then 60 object not 1 to N, then 61 object is free": the first that applies, and never otherwise
-pub refused_exactly : (s : State) (o k : ℕ) → why_of s o ≡ Refused k ↔ FirstIs (refusals s o) k
+pub refused_exactly : (s : State) (o : ℕ) (k : NotKept) → why_of s o ≡ Err k ↔ FirstIs (refusals s o) k
 refused_exactly = told.refused_exactly
 
 -- An object that is not free is told by the numbers of whatever reason applies to it and whatever hazard is the first.
-pub told_as : (s : State) (o : ℕ) → Stays s o → (r : Reason) (h : Hazard) → Applies s o r → FirstHazard s o h
-    → numbers_of (why_of s o) ≡ numbers_of (Kept r h)
+pub told_as : (s : State) (o : ℕ) → Stays s o → (r : Reason) (h : Option ℕ) → Applies s o r → FirstHazard s o h
+    → numbers_of (why_of s o) ≡ numbers_of (Ok (record { reason = r; hazard = h }))
 told_as = told.told_as
 
 -- "Any two results allowed by it are proved the same."
-pub why_once : (s : State) (o : ℕ) (r r' : Explained) → r ≡ why_of s o → r' ≡ why_of s o → r ≡ r'
+pub why_once : (s : State) (o : ℕ) (r r' : Result Kept NotKept) → r ≡ why_of s o → r' ≡ why_of s o → r ≡ r'
 why_once s = allowed_once (why_of s)

@@ -1,5 +1,5 @@
 -- What each reason and each hazard says of a state, apart from how it is found.
-use Rattle.std.specs.Prelude.{ℕ, ◌<◌, ◌≤◌, ◌≡◌, true, false}
+use Rattle.std.specs.Prelude.{ℕ, ◌<◌, ◌≤◌, ◌≡◌, true, false, Option, None, Some}
 use Rattle.machine.specs.declared.State.{State}
 use Rattle.entries.specs.declared.Slot.{Slot}
 use Rattle.entries.specs.declared.Phase.{Phase}
@@ -11,8 +11,6 @@ use Rattle.reasons.specs.declared.Guard.{Guard}
 use Rattle.reasons.specs.declared.Guard.TheVariants as guard
 use Rattle.reasons.specs.declared.Reason.{Reason}
 use Rattle.reasons.specs.declared.Reason.TheVariants.{Link, Hand, Carried, Handover}
-use Rattle.reasons.specs.declared.Hazard.{Hazard}
-use Rattle.reasons.specs.declared.Hazard.TheVariants.{At, Nowhere}
 
 -- an object 1 to N of a sound state that is not free
 pub record Stays (s : State) (o : ℕ) : Type 0 where
@@ -43,7 +41,7 @@ abbrev pub NoHazard : State → ℕ → ℕ → Type 0
 NoHazard s o n = (q : ℕ) → q < n → (slot_at s q).hazard ≡ o → ⊥
 
 -- "the first position in scan order that holds it as a hazard, or none"
-abbrev pub FirstHazard : State → ℕ → Hazard → Type 0
-FirstHazard s o (At p) =
+abbrev pub FirstHazard : State → ℕ → Option ℕ → Type 0
+FirstHazard s o (Some p) =
     (p < positions s.sizes) × (((slot_at s p).hazard ≡ o) × NoHazard s o p)
-FirstHazard s o Nowhere = NoHazard s o (positions s.sizes)
+FirstHazard s o None = NoHazard s o (positions s.sizes)

@@ -1,14 +1,13 @@
 -- "Where an answer is an enum, a definition gives this paper's number and values for every one of its cases." The reasons have the numbers
 -- 1 to 4 in the order of the request, a refusal has its own.
-use Rattle.std.specs.Prelude.{ℕ, ◌<◌, ◌≤◌, ◌≡◌}
+use Rattle.std.specs.Prelude.{ℕ, ◌<◌, ◌≤◌, ◌≡◌, Option, None, Some, Result, Ok, Err}
 use Rattle.reasons.specs.declared.Guard.{Guard}
 use Rattle.reasons.specs.declared.Guard.TheVariants.{Protected, Published, Otherwise}
 use Rattle.reasons.specs.declared.Reason.{Reason}
 use Rattle.reasons.specs.declared.Reason.TheVariants.{Link, Hand, Carried, Handover}
-use Rattle.reasons.specs.declared.Hazard.{Hazard}
-use Rattle.reasons.specs.declared.Hazard.TheVariants.{At, Nowhere}
-use Rattle.reasons.specs.declared.Explained.{Explained}
-use Rattle.reasons.specs.declared.Explained.TheVariants.{Kept, Refused}
+use Rattle.reasons.specs.declared.Kept.{Kept}
+use Rattle.reasons.specs.declared.NotKept.{NotKept}
+use Rattle.reasons.specs.declared.NotKept.TheVariants.{Unsound, NoSuchObject, Free}
 
 -- the reason or refusal, what it names, and the hazard: 1 and its first position, or 0 and 0 for none
 pub record Numbers : Type 0 where
@@ -41,24 +40,29 @@ reason_b (Hand thread) = 0
 reason_b (Carried thread position) = position
 reason_b (Handover position guard) = guard_number guard
 
-unfoldable pub hazard_number : Hazard → ℕ
-hazard_number (At position) = 1
-hazard_number Nowhere = 0
+unfoldable pub hazard_number : Option ℕ → ℕ
+hazard_number (Some position) = 1
+hazard_number None = 0
 
-unfoldable pub hazard_position : Hazard → ℕ
-hazard_position (At position) = position
-hazard_position Nowhere = 0
+unfoldable pub hazard_position : Option ℕ → ℕ
+hazard_position (Some position) = position
+hazard_position None = 0
 
-unfoldable pub numbers_of : Explained → Numbers
-numbers_of (Kept reason hazard) =
+unfoldable pub number_of : NotKept → ℕ
+number_of Unsound = 19
+number_of NoSuchObject = 60
+number_of Free = 61
+
+unfoldable pub numbers_of : Result Kept NotKept → Numbers
+numbers_of (Ok kept) =
     record {
-      number = reason_number reason;
-      a = reason_a reason;
-      b = reason_b reason;
-      hazard = hazard_number hazard;
-      first = hazard_position hazard;
+      number = reason_number kept.reason;
+      a = reason_a kept.reason;
+      b = reason_b kept.reason;
+      hazard = hazard_number kept.hazard;
+      first = hazard_position kept.hazard;
     }
-numbers_of (Refused number) = record { number = number; a = 0; b = 0; hazard = 0; first = 0 }
+numbers_of (Err refusal) = record { number = number_of refusal; a = 0; b = 0; hazard = 0; first = 0 }
 
 -- the numbers of an object that the slot at p protects
 pub record Sheltered (told : Numbers) (p : ℕ) : Type 0 where

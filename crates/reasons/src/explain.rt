@@ -1,75 +1,66 @@
 // The one reason for which an object is kept, for any state and any number.
-ghost use Rattle.std.specs.Prelude.{◌≡◌};
-ghost use Rattle.reasons.specs.Reasons.{reason_of, refusal_of, why_of};
+ghost use Rattle.std.specs.Prelude.{◌≡◌, None};
+ghost use Rattle.reasons.specs.Reasons.{reason_of, refusal_of, checked_of, why_of};
 
 use crate::hazards::{first_hazard, guard_of};
-use crate::searches::{carrier_of, hand_with, handover_with, link_with};
-use crate::{Explained, Reason};
+use crate::{Kept, NotKept, Reason};
 use machine::State;
 
-// "Refusals: 19, then 60 object not 1 to N, then 61 object is free"; 0 where the object is kept.
-fn refusal(state: State, object: u8) -> u8
-    ensures { result ≡ refusal_of state object }
+// "Refusals: 19, then 60 object not 1 to N, then 61 object is free."
+#[tactic(auto, unfolding(crate::specs::Reasons::checked_of, crate::specs::Reasons::refusal_of, crate::specs::Reasons::refusals, basics::specs::Rows::first_of))]
+fn check(state: State, object: u8) -> Result<(), NotKept>
+    ensures { result ≡ checked_of state object }
 {
     if !state.is_sound() {
-        return 19;
+        return Err(NotKept::Unsound);
     }
-    let sizes = state.sizes;
-    if (object == 0) | (sizes.objects < object) {
-        return 60;
+    if !(1..=state.sizes.objects).contains(&object) {
+        return Err(NotKept::NoSuchObject);
     }
-    let pool = state.pool;
-    if pool.is_free(object) {
-        return 61;
+    if state.pool.is_free(object) {
+        return Err(NotKept::Free);
     }
-    0
+    Ok(())
 }
 
 // The place of an object that is in one of the four.
 fn reason_of(state: State, object: u8) -> Reason
-    requires { refusal_of state object ≡ 0 }
+    requires { refusal_of state object ≡ None }
     ensures { result ≡ reason_of state object }
 {
-    let sizes = state.sizes;
-    let links = state.links;
-    let link = link_with(sizes.links, links, object);
-    if link < sizes.links {
+    let State {
+        sizes,
+        links,
+        threads,
+        slots,
+        ..
+    } = state;
+    if let Some(link) = (0..sizes.links).find(|&i| links[usize::from(i)] == object) {
         return Reason::Link { link };
     }
-    let threads = state.threads;
-    let hand = hand_with(sizes.threads, threads, object);
-    if hand < sizes.threads {
-        return Reason::Hand { thread: hand };
+    if let Some(thread) = (0..sizes.threads).find(|&t| threads[usize::from(t)].hand == object) {
+        return Reason::Hand { thread };
     }
-    let thread = carrier_of(sizes.threads, threads, object);
-    if thread < sizes.threads {
-        let t = thread as usize;
-        let carrier = threads[t];
-        return Reason::Carried {
-            thread,
-            position: carrier.phase.scan_position(),
-        };
+    let carrier = (0..sizes.threads).find(|&t| threads[usize::from(t)].phase.carried() == object);
+    if let Some(thread) = carrier {
+        let position = threads[usize::from(thread)].phase.scan_position();
+        return Reason::Carried { thread, position };
     }
-    let slots = state.slots;
-    let position = handover_with(sizes.threads * sizes.slots, slots, object);
-    let p = position as usize;
-    let left = slots[p];
-    let guard = guard_of(left, object);
+    // it is in none of the first three, so it is in the last
+    let positions = sizes.threads * sizes.slots;
+    let left_with = (0..positions).find(|&p| slots[usize::from(p)].handover == object);
+    let position = left_with.unwrap();
+    let guard = guard_of(slots[usize::from(position)], object);
     Reason::Handover { position, guard }
 }
 
 // Names the one reason for which an object of the state is kept, and the first position in scan order that holds it as a hazard.
-pub fn why(state: State, object: u8) -> Explained
+pub fn why(state: State, object: u8) -> Result<Kept, NotKept>
     ensures { result ≡ why_of state object }
 {
-    let number = refusal(state, object);
-    if number != 0 {
-        return Explained::Refused(number);
-    }
-    let reason = reason_of(state, object);
-    let slots = state.slots;
-    Explained::Kept {
-        reason,
-        hazard: first_hazard(state.sizes, slots, object),
-    }
+    check(state, object)?;
+    Ok(Kept {
+        reason: reason_of(state, object),
+        hazard: first_hazard(state.sizes, state.slots, object),
+    })
 }

@@ -3,12 +3,14 @@
 
 mod explain;
 mod hazards;
-mod searches;
+
+ghost use Rattle.std.specs.Prelude.{◌≡◌};
+ghost use Rattle.reasons.specs.Numbers.{number_of};
 
 pub use explain::why;
 
 // How the slot in whose handover an object was left stands to that object.
-#[derive(Clone, Copy)]
+#[derive(Clone, Copy, Debug, PartialEq, Eq)]
 pub enum Guard {
     // its hazard is the object, and the mark is on
     Protected,
@@ -19,7 +21,7 @@ pub enum Guard {
 }
 
 // The one reason for which an object that is not free is kept.
-#[derive(Clone, Copy)]
+#[derive(Clone, Copy, Debug, PartialEq, Eq)]
 pub enum Reason {
     Link { link: u8 },
     Hand { thread: u8 },
@@ -27,15 +29,27 @@ pub enum Reason {
     Handover { position: u8, guard: Guard },
 }
 
-// The first position in scan order that holds an object as its hazard, or none.
-#[derive(Clone, Copy)]
-pub enum Hazard {
-    At(u8),
-    Nowhere,
+// What is said of an object that is kept.
+#[derive(Clone, Copy, Debug, PartialEq, Eq)]
+pub struct Kept {
+    pub reason: Reason,
+    // the first position in scan order that holds the object as its hazard
+    pub hazard: Option<u8>,
 }
 
-#[derive(Clone, Copy)]
-pub enum Explained {
-    Kept { reason: Reason, hazard: Hazard },
-    Refused(u8),
+// "Refusals: 19, then 60 object not 1 to N, then 61 object is free."
+#[derive(Clone, Copy, Debug, PartialEq, Eq)]
+pub enum NotKept {
+    Unsound = 19,
+    NoSuchObject = 60,
+    Free = 61,
+}
+
+impl NotKept {
+    #[tactic(auto, unfolding(crate::specs::Numbers::number_of))]
+    pub fn number(self) -> u8
+        ensures { result ≡ number_of self }
+    {
+        self as u8
+    }
 }

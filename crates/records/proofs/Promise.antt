@@ -5,13 +5,15 @@ use Rattle.records.specs.declared.StepRecord.{StepRecord}
 use Rattle.records.specs.Promise.{largest_tag}
 use Rattle.records.specs.declared.Record.{Record}
 use Rattle.records.specs.declared.Record.TheVariants.{Sizes, Step}
+use Rattle.records.specs.declared.Malformed.{Malformed}
+use Rattle.records.specs.declared.NoRoom.{NoRoom}
 use Rattle.basics.specs.Functions.{allowed_once}
 use Rattle.records.specs.Marks.{marked}
 use Rattle.records.specs.Bytes.{AllBytes, low_first, number_of, step_bytes}
 use Rattle.records.specs.Reading.{Read, step_at, read_of}
 use Rattle.records.specs.Rest.{rest_of}
 use Rattle.records.specs.Writing.{Written, answer_of, written_of}
-use Rattle.records.specs.Numbers.{malformed_number, numbers_of, numbers_of_written}
+use Rattle.records.specs.Numbers.{malformed_number, no_room_number, numbers_of, numbers_of_written}
 use Rattle.records.specs.EitherKind.{record_bytes, read_bytes, GoodRecord}
 use Rattle.records.proofs.Lemmas.Back as back
 use Rattle.records.proofs.Lemmas.Told as told
@@ -72,6 +74,12 @@ answer_once = allowed_once answer_of
 
 pub written_once : (ten buffer r s : List ℕ) → r ≡ written_of ten buffer → s ≡ written_of ten buffer → r ≡ s
 written_once ten = allowed_once (written_of ten)
+
+pub malformed_number_once : (why : Malformed) (r s : ℕ) → r ≡ malformed_number why → s ≡ malformed_number why → r ≡ s
+malformed_number_once = allowed_once malformed_number
+
+pub no_room_number_once : (none : NoRoom) (r s : ℕ) → r ≡ no_room_number none → s ≡ no_room_number none → r ≡ s
+no_room_number_once = allowed_once no_room_number
 
 -- The numbers of an answer tell the whole answer.
 pub numbers_tell : (a b : Read) → numbers_of a ≡ numbers_of b → a ≡ b

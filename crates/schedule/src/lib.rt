@@ -47,7 +47,7 @@ impl Stop {
 impl From<Malformed> for Stop {
     ghost from_gives = { λ why s. s ≡ stop.Malformed why };
 
-    fn from(why: Malformed) -> Stop {
-        Stop::Malformed(why)
+    fn from(malformed: Malformed) -> Stop {
+        Stop::Malformed(malformed)
     }
 }

@@ -2,14 +2,14 @@
 use Prim.Native.Nat.{ℕ, ◌+◌, ◌-◌, ◌≤◌}
 use mathlib.Core.Path.{◌≡◌}
 use mathlib.Core.List.{List}
+use Rattle.std.specs.Prelude.{Ok, Err, Some, None}
 use Rattle.machine.specs.declared.State.{State}
-use Rattle.machine.specs.declared.Started.{Started}
-use Rattle.machine.specs.declared.Verdict.TheVariants as verdict
 use Rattle.machine.specs.declared.Call.{Call}
 use Rattle.machine.specs.Step.{step_of}
 use Rattle.promise.specs.History.{state_by}
 use Rattle.records.specs.Rest.{rest_of}
-use Rattle.schedule.specs.declared.Next.TheVariants as next
+use Rattle.schedule.specs.declared.Opened.{Opened}
+use Rattle.schedule.specs.declared.Stop.{Stop}
 use Rattle.schedule.specs.Going.{next_of}
 use Rattle.schedule.specs.Asked.{found_at, found_from, found_of, found_in}
 use Rattle.schedule.specs.Opening.{opened_of}
@@ -19,28 +19,28 @@ use Rattle.sentences.specs.Ends.{ended, stopped, end_at, end_found, end_in, end_
 
 module _ (steps : ℕ) (s : State) (left : List ℕ) (l : steps ≤ 6000) where
   pub step_end :
-      (c : Call) → next_of steps left ≡ next.Call c →
+      (c : Call) → next_of steps left ≡ Ok (Some c) →
       end_found s (found_from (6001 - steps) steps left) ≡
       end_found (step_of s c).state (found_from (6001 - (steps + 1)) (steps + 1) (rest_of left))
   unfolding end_found found_at state_by
-  step_end c e = rw (found_next steps left (next.Call c) e l)
+  step_end c e = rw (found_next steps left (Ok (Some c)) e l)
 
-  pub well_end : next_of steps left ≡ next.End → end_found s (found_from (6001 - steps) steps left) ≡ ended s
+  pub well_end : next_of steps left ≡ Ok None → end_found s (found_from (6001 - steps) steps left) ≡ ended s
   unfolding end_found found_at state_by end_at
-  well_end e = rw (found_next steps left next.End e l)
+  well_end e = rw (found_next steps left (Ok None) e l)
 
-  pub stop_end : (number : ℕ) → next_of steps left ≡ next.Stop number → end_found s (found_from (6001 - steps) steps left) ≡ stopped
+  pub stop_end : (why : Stop) → next_of steps left ≡ Err why → end_found s (found_from (6001 - steps) steps left) ≡ stopped
   unfolding end_found found_at state_by end_at
-  stop_end number e = rw (found_next steps left (next.Stop number) e l)
+  stop_end why e = rw (found_next steps left (Err why) e l)
 
 -- an input that opens a machine, and one that does not
-module _ (input : List ℕ) (by : Started) (is : by ≡ opened_of input) where
-  pub good_end : by.verdict ≡ verdict.Good → end_of input ≡ end_found by.state (found_of (rest_of input))
+module _ (input : List ℕ) (by : Opened) (is : by ≡ opened_of input) where
+  pub good_end : by.verdict ≡ Ok tt → end_of input ≡ end_found by.state (found_of (rest_of input))
   unfolding end_of end_in end_found found_in
   good_end g =
       let says = good_says input by is g in
       rw (says.0, asking_finds (rest_of input), ← says.1)
 
-  pub refused_end : (number : ℕ) → by.verdict ≡ verdict.Refused number → end_of input ≡ stopped
+  pub refused_end : (why : Stop) → by.verdict ≡ Err why → end_of input ≡ stopped
   unfolding end_of end_in
-  refused_end number g = rw (refused_says input by is number g)
+  refused_end why g = rw (refused_says input by is why g)

@@ -1,15 +1,13 @@
 -- The sentence that says why an object is still here. "names its reason for being kept: in a link, in a hand, carried by a thread with its
 -- position, or left in a handover. For a handover it says whether that slot's hazard is the object and protected, is the object and only
 -- published, or is something else. It also names the first position in scan order that holds it as a hazard, or none."
-use Rattle.std.specs.Prelude.{ℕ, ◌/◌, ◌%◌, cond, List, [], ◌∷◌, ◌++◌, eqb}
+use Rattle.std.specs.Prelude.{ℕ, ◌/◌, ◌%◌, cond, List, [], ◌∷◌, ◌++◌, eqb, Option, None, Some, Result, Ok, Err}
 use Rattle.reasons.specs.declared.Guard.{Guard}
 use Rattle.reasons.specs.declared.Guard.TheVariants as guard
 use Rattle.reasons.specs.declared.Reason.{Reason}
 use Rattle.reasons.specs.declared.Reason.TheVariants.{Link, Hand, Carried, Handover}
-use Rattle.reasons.specs.declared.Hazard.{Hazard}
-use Rattle.reasons.specs.declared.Hazard.TheVariants.{At, Nowhere}
-use Rattle.reasons.specs.declared.Explained.{Explained}
-use Rattle.reasons.specs.declared.Explained.TheVariants.{Kept, Refused}
+use Rattle.reasons.specs.declared.Kept.{Kept}
+use Rattle.reasons.specs.declared.NotKept.{NotKept}
 use Rattle.text.specs.Words.{words}
 
 -- "A slot's position is thread × H + slot". Without slots, where there is no position, both are 0.
@@ -36,13 +34,13 @@ module _ (slots : ℕ) where
       (object ∷ position ∷ thread_of slots position ∷ slot_of slots position ∷ []) ++
       guard_words guard
 
-  unfoldable pub hazard_words : Hazard → List ℕ
-  hazard_words (At position) =
+  unfoldable pub hazard_words : Option ℕ → List ℕ
+  hazard_words (Some position) =
       words "; first hazard: position % (thread %, slot %)\n"
       (position ∷ thread_of slots position ∷ slot_of slots position ∷ [])
-  hazard_words Nowhere = words "; no hazard\n" []
+  hazard_words None = words "; no hazard\n" []
 
   -- the line of an object; none of one that is free or is no object
-  unfoldable pub line_of : ℕ → Explained → List ℕ
-  line_of object (Kept reason hazard) = reason_words object reason ++ hazard_words hazard
-  line_of object (Refused number) = []
+  unfoldable pub line_of : ℕ → Result Kept NotKept → List ℕ
+  line_of object (Ok kept) = reason_words object kept.reason ++ hazard_words kept.hazard
+  line_of object (Err refusal) = []

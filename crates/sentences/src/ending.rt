@@ -9,7 +9,6 @@ ghost use Rattle.sentences.specs.Told.{text_at};
 use crate::objects::put_lines;
 use machine::State;
 use records::reading::rest;
-use schedule::Next;
 use schedule::going::next;
 
 // The sentences at the end of the run from a state and the bytes that are left; nothing where it stops.
@@ -21,21 +20,16 @@ pub(crate) fn put_end(input: &[u8], out: &mut [u8], state: State) -> usize
     let mut now_at = state;
     let mut steps: u32 = 0;
     loop {
-        let found = next(left, steps);
-        match found {
-            Next::Call(call) => {
-                let done = now_at.step(call);
-                now_at = done.state;
-                let after = rest(left);
-                left = after;
-                steps += 1;
-            }
-            Next::End => {
-                return put_lines(out, now_at);
-            }
-            Next::Stop(_) => {
-                return 0;
-            }
-        }
+        // what is no call ends the run, well or with a stop
+        let found = match next(left, steps) {
+            Ok(found) => found,
+            Err(_) => return 0,
+        };
+        let Some(call) = found else {
+            return put_lines(out, now_at);
+        };
+        now_at = now_at.step(call).state;
+        left = rest(left);
+        steps += 1;
     }
 }

@@ -5,7 +5,6 @@ ghost use Rattle.sentences.specs.Lent.{room_for_all};
 ghost use Rattle.sentences.specs.Told.{text_of};
 
 use crate::ending::put_end;
-use machine::Verdict;
 use records::reading::rest;
 use schedule::opening::open;
 
@@ -15,13 +14,8 @@ pub(crate) fn put_text(input: &[u8], out: &mut [u8]) -> usize
     ensures { Appended out.old 0 (text_of input.now) out.new result }
 {
     let opened = open(input);
-    let state = opened.state;
-    let verdict = opened.verdict;
-    match verdict {
-        Verdict::Good => {
-            let left = rest(input);
-            put_end(left, out, state)
-        }
-        Verdict::Refused(_) => 0,
+    match opened.verdict {
+        Ok(()) => put_end(rest(input), out, opened.state),
+        Err(_) => 0,
     }
 }

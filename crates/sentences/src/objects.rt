@@ -6,21 +6,15 @@ ghost use Rattle.sentences.specs.Told.{lines_of};
 
 use crate::sentence::put_line;
 use machine::State;
-use reasons::why;
 
 // The lines of objects 1 to N, at the front of a buffer that has room for them.
 pub(crate) fn put_lines(out: &mut [u8], state: State) -> usize
     requires { room_for_all ≤ length out.old }
     ensures { Appended out.old 0 (lines_of state) out.new result }
 {
-    let objects = state.sizes.objects;
-    let slots = state.sizes.slots;
     let mut next = 0;
-    let mut i = 0;
-    while i < objects {
-        let object = i + 1;
-        next = put_line(out, next, slots, object, why(state, object));
-        i = object;
+    for object in 1..=state.sizes.objects {
+        next = put_line(out, next, state, object);
     }
     next
 }

@@ -1,23 +1,27 @@
 // Writes the sentence that says why an object is still here into a lent buffer.
 ghost use Rattle.std.specs.Prelude.{◌≡◌, ◌+◌, ◌≤◌, length};
 ghost use Rattle.text.specs.Written.{Appended};
+ghost use Rattle.reasons.specs.Reasons.{why_of};
 ghost use Rattle.sentences.specs.Lent.{guard_room, reason_room, hazard_room, line_room};
 ghost use Rattle.sentences.specs.Sentence.{thread_of, slot_of, guard_words, reason_words, hazard_words, line_of};
 
-use reasons::{Explained, Guard, Hazard, Reason};
+use machine::State;
+use reasons::{Guard, Kept, Reason, why};
 use text::filling::put_filled;
 
 // The thread whose slot is at a position, and which of its slots it is.
+#[tactic(auto, unfolding(crate::specs::Sentence::thread_of))]
 fn thread_of(slots: u8, position: u8) -> u8
     ensures { result ≡ thread_of slots position }
 {
-    if slots == 0 { 0 } else { position / slots }
+    position.checked_div(slots).unwrap_or(0)
 }
 
+#[tactic(auto, unfolding(crate::specs::Sentence::slot_of))]
 fn slot_of(slots: u8, position: u8) -> u8
     ensures { result ≡ slot_of slots position }
 {
-    if slots == 0 { 0 } else { position % slots }
+    position.checked_rem(slots).unwrap_or(0)
 }
 
 // "whether that slot's hazard is the object and protected, is the object and only published, or is something else"
@@ -92,12 +96,12 @@ fn put_reason(out: &mut [u8], at: usize, slots: u8, object: u8, reason: Reason) 
 }
 
 // "the first position in scan order that holds it as a hazard, or none", and the end of the line
-fn put_hazard(out: &mut [u8], at: usize, slots: u8, hazard: Hazard) -> usize
+fn put_hazard(out: &mut [u8], at: usize, slots: u8, hazard: Option<u8>) -> usize
     requires { at + hazard_room ≤ length out.old }
     ensures { (result ≤ at + hazard_room) × Appended out.old at (hazard_words slots hazard) out.new result }
 {
     match hazard {
-        Hazard::At(position) => {
+        Some(position) => {
             let thread = thread_of(slots, position);
             let slot = slot_of(slots, position);
             put_filled(
@@ -107,20 +111,21 @@ fn put_hazard(out: &mut [u8], at: usize, slots: u8, hazard: Hazard) -> usize
                 [position, thread, slot, 0],
             )
         }
-        Hazard::Nowhere => put_filled(out, at, b"; no hazard\n", [0, 0, 0, 0]),
+        None => put_filled(out, at, b"; no hazard\n", [0, 0, 0, 0]),
     }
 }
 
 // The line of an object; nothing where it is free.
-pub(crate) fn put_line(out: &mut [u8], at: usize, slots: u8, object: u8, told: Explained) -> usize
+pub(crate) fn put_line(out: &mut [u8], at: usize, state: State, object: u8) -> usize
     requires { at + line_room ≤ length out.old }
-    ensures { (result ≤ at + line_room) × Appended out.old at (line_of slots object told) out.new result }
+    ensures { (result ≤ at + line_room) × Appended out.old at (line_of state.sizes.slots object (why_of state object)) out.new result }
 {
-    match told {
-        Explained::Kept { reason, hazard } => {
+    match why(state, object) {
+        Ok(Kept { reason, hazard }) => {
+            let slots = state.sizes.slots;
             let next = put_reason(out, at, slots, object, reason);
             put_hazard(out, next, slots, hazard)
         }
-        Explained::Refused(_) => at,
+        Err(_) => at,
     }
 }

@@ -1,52 +1,31 @@
 // Tells of an input how its text ends.
-ghost use Rattle.std.specs.Prelude.{◌≤◌, length};
 
 // How many lines a text has: each ends with a newline.
-fn count_lines(text: &[u8]) -> u64 {
-    let mut n: u64 = 0;
-    let mut i = 0;
-    while i < text.len() {
-        if text[i] == 10 {
-            n += 1;
-        }
-        i += 1;
+fn count_lines(text: &[u8]) -> usize {
+    text.iter().filter(|&&byte| byte == b'\n').count()
+}
+
+// The last line: what comes after the last newline that has a byte after it, or the whole text.
+fn last_line(text: &[u8]) -> &[u8] {
+    let Some((_, front)) = text.split_last() else {
+        return text;
+    };
+    match front.iter().rposition(|&byte| byte == b'\n') {
+        Some(newline) => &text[newline + 1..],
+        None => text,
     }
-    n
 }
 
-// Where the last line begins: after the last newline that has a byte after it, or at the start.
-fn last_line(text: &[u8]) -> usize
-    ensures { result ≤ length text.now }
-{
-    let mut begin = 0;
-    let mut i = 1;
-    while i < text.len() {
-        if text[i - 1] == 10 {
-            begin = i;
-        }
-        i += 1;
-    }
-    begin
-}
-
-// One line: the case, its bytes, how many lines its text has, and the last of them.
-fn tell(rt: &impl Print, name: &[u8], size: usize, text: &[u8]) {
-    let _ = rt.write_all(name);
-    let _ = rt.write_all(b": ");
-    let _ = rt.print(size);
-    let _ = rt.write_all(b" bytes, ");
-    let _ = rt.print(count_lines(text));
-    let _ = rt.write_all(b" lines, ");
-    let begin = last_line(text);
-    let _ = rt.write_all(&text[begin..]);
-}
-
-// Runs the first bytes of a space as an input, and tells how the text ends. Of a size beyond the space it prints nothing.
-pub(crate) fn show(rt: &impl Print, name: &[u8], space: &[u8], size: usize) {
+// Runs the first bytes of a space as an input, and tells in a line of the case, its bytes, how many lines its text has, and the last of
+// them. Of a size beyond the space it prints nothing.
+pub(crate) fn show(rt: &impl Print, name: &str, space: &[u8], size: usize) {
+    let Some(input) = space.get(..size) else {
+        return;
+    };
     // room for every run, as `lines::run` asks
     let mut out = [0u8; lines::ROOM];
-    if size <= space.len() {
-        let n = lines::run(&space[..size], &mut out);
-        tell(rt, name, size, &out[..n]);
-    }
+    let n = lines::run(input, &mut out);
+    let text = &out[..n];
+    let _ = print!(rt; "{name}: {size} bytes, {} lines, ", count_lines(text));
+    let _ = rt.write_all(last_line(text));
 }

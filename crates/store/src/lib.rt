@@ -2,7 +2,7 @@
 // A record is the number of its take, from 1; 0 is no record. A schedule run beside it has at most 255 takes.
 #![tactic(auto)]
 
-use plain::{Operation, Order, Raw, Said};
+use plain::{Operation, Order, Raw, Said, put};
 
 // The slot and the link that a thread's last protect named, which is listed only when it ends.
 #[derive(Clone, Copy)]
@@ -29,12 +29,6 @@ pub struct Store {
 // The record in one of some places, 0 where there is no such place.
 fn at(row: &[u8], place: usize) -> u8 {
     row.get(place).copied().unwrap_or(0)
-}
-
-fn put(row: &mut [u8], place: usize, record: u8) {
-    if let Some(there) = row.get_mut(place) {
-        *there = record;
-    }
 }
 
 impl Store {
@@ -98,12 +92,8 @@ impl Store {
     }
 
     fn begin(&mut self, o: Order) {
-        if let Some(protect) = self.protect.get_mut(o.thread) {
-            *protect = Protect {
-                slot: o.slot,
-                link: o.link,
-            };
-        }
+        let Order { slot, link, .. } = o;
+        put(&mut self.protect, o.thread, Protect { slot, link });
     }
 
     fn swap(&mut self, o: Order, s: Said) -> bool {
@@ -171,7 +161,7 @@ impl Store {
     }
 
     // Whether an object, "read as the take that last handed it out", is that record.
-    fn is(&self, object: u8, record: u8) -> bool {
+    fn reads_as(&self, object: u8, record: u8) -> bool {
         match self.last.get(usize::from(object)) {
             Some(&last) => last == record,
             None => true,
@@ -182,7 +172,7 @@ impl Store {
         records
             .iter()
             .zip(objects)
-            .all(|(&record, &object)| self.is(object, record))
+            .all(|(&record, &object)| self.reads_as(object, record))
     }
 
     // "After every call, links, hands and slots with the mark on also hold the same records as the store's".
@@ -191,6 +181,6 @@ impl Store {
         self.same(&self.link, &r.link)
             && self.same(&self.hand, &r.hand)
             && self.slot.iter().zip(hazards).all(|(&record, (&object, &mark))| !mark
-                || self.is(object, record))
+                || self.reads_as(object, record))
     }
 }

@@ -100,7 +100,7 @@ impl Twin {
             seen,
             ..Task::IDLE
         };
-        self.becomes(t, next, 2, seen, 0)
+        self.becomes(t, next).answer(2, seen, 0)
     }
 
     fn swap(mut self, t: usize, slot: usize, link: usize) -> Stepped {
@@ -127,7 +127,7 @@ impl Twin {
         let object = self.at(Place::hand(t));
         self.put(object, Place::carried(t));
         let next = Task::IDLE.scanning(Doing::Look, 0);
-        self.becomes(t, next, 2, object, 0)
+        self.becomes(t, next).answer(2, object, 0)
     }
 
     fn clear(mut self, t: usize, slot: usize) -> Stepped {
@@ -139,6 +139,6 @@ impl Twin {
             slot,
             ..Task::IDLE
         };
-        self.becomes(t, next, 2, 0, 0)
+        self.becomes(t, next).answer(2, 0, 0)
     }
 }

@@ -1,6 +1,6 @@
 // From plain numbers to a twin, and from a twin to plain numbers.
 use crate::place::Place;
-use crate::twin::{BLANK, Twin};
+use crate::twin::Twin;
 use plain::Raw;
 
 // The twin of a sound state. Of another it is one to draw a call for: there an object may be in two places, and here it is in
@@ -15,7 +15,7 @@ pub fn of(r: &Raw) -> Twin {
         mark: r.mark,
         task: r.task,
         tag: r.tag,
-        ..BLANK
+        ..Twin::BLANK
     };
     for (place, &free) in w.place.iter_mut().zip(&r.free) {
         if free {
@@ -39,13 +39,6 @@ pub fn of(r: &Raw) -> Twin {
     w
 }
 
-// An object stands at a place of a row.
-fn fill(row: &mut [u8], i: u8, object: usize) {
-    if let Some(there) = row.get_mut(usize::from(i)) {
-        *there = plain::byte(object);
-    }
-}
-
 impl Twin {
     // The state in plain numbers.
     pub fn raw(&self) -> Raw {
@@ -61,16 +54,16 @@ impl Twin {
             ..Raw::EMPTY
         };
         for (i, &place) in self.place.iter().enumerate().take(self.objects) {
-            let object = i + 1;
+            let object = plain::byte(i + 1);
             match place {
                 Place::Nowhere => {}
                 Place::Free => r.free[i] = true,
-                Place::Link(l) => fill(&mut r.link, l, object),
-                Place::Hand(t) => fill(&mut r.hand, t, object),
-                Place::Handover(p) => fill(&mut r.handover, p, object),
+                Place::Link(l) => plain::put(&mut r.link, usize::from(l), object),
+                Place::Hand(t) => plain::put(&mut r.hand, usize::from(t), object),
+                Place::Handover(p) => plain::put(&mut r.handover, usize::from(p), object),
                 Place::Carried(t) => {
                     if let Some(task) = r.task.get_mut(usize::from(t)) {
-                        task.seen = object;
+                        task.seen = usize::from(object);
                     }
                 }
             }

@@ -52,17 +52,17 @@ impl Twin {
             seen: if early { task.seen } else { 0 },
             position: 0,
         };
-        self.becomes(t, next, 3, 1, p)
+        self.becomes(t, next).answer(3, 1, p)
     }
 
     // "Equal to the hazard and not 0: mark on, idle, 4 Protected (object, tag). Equal and 0: idle, 5 Nothing (0, 0)."
     fn protected(mut self, t: usize, p: usize, object: usize) -> Stepped {
         if object == 0 {
-            return self.becomes(t, Task::IDLE, 5, 0, 0);
+            return self.becomes(t, Task::IDLE).answer(5, 0, 0);
         }
         self.set_mark(p, true);
         let tag = self.tag_of(object);
-        self.becomes(t, Task::IDLE, 4, object, tag)
+        self.becomes(t, Task::IDLE).answer(4, object, tag)
     }
 
     // "Published: read the link again."
@@ -79,7 +79,7 @@ impl Twin {
             seen: there,
             ..Task::IDLE
         };
-        self.becomes(t, next, 3, 2, p)
+        self.becomes(t, next).answer(3, 2, p)
     }
 
     // "Draining: take the handover and put 0 there. It was 0: idle, 9 Finished (0, 0)." After a publication "it found 0, answer 3
@@ -101,22 +101,22 @@ impl Twin {
             self.put(object, Place::carried(t));
             self.scan(t, task, Doing::Look, p, 6)
         } else if task.back {
-            self.becomes(t, after(task), 3, 7, p)
+            self.becomes(t, after(task)).answer(3, 7, p)
         } else {
-            self.becomes(t, after(task), 9, 0, 0)
+            self.becomes(t, after(task)).answer(9, 0, 0)
         }
     }
 
     // Look or Swap at the position concerned, and 3 with what was done there.
     fn scan(self, t: usize, task: Task, doing: Doing, p: usize, done: usize) -> Stepped {
-        self.becomes(t, task.scanning(doing, p), 3, done, p)
+        self.becomes(t, task.scanning(doing, p)).answer(3, done, p)
     }
 
     // Look one position on, and 3 with what was done at this one.
     fn scan_on(self, t: usize, task: Task, done: usize) -> Stepped {
         let p = task.position;
         let next = task.scanning(Doing::Look, p.saturating_add(1));
-        self.becomes(t, next, 3, done, p)
+        self.becomes(t, next).answer(3, done, p)
     }
 
     // 10 or 11, which "returns the thread to Published and not to idle" where its scan followed a publication.
@@ -125,7 +125,7 @@ impl Twin {
             Some(Trap::IdleAfter) => Task::IDLE,
             _ => after(task),
         };
-        self.becomes(t, next, number, object, p)
+        self.becomes(t, next).answer(number, object, p)
     }
 
     // Whether a position is one of a thread's own.

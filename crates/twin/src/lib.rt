@@ -15,4 +15,4 @@ mod twin;
 pub use exchange::of;
 pub use refusal::Refusal;
 pub use trap::Trap;
-pub use twin::{Counts, Stepped, Twin, start};
+pub use twin::{Counts, Started, Stepped, Twin, start};

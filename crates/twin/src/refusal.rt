@@ -14,3 +14,9 @@ pub enum Refusal {
     NoneFree = 30,
     NotProtected = 31,
 }
+
+impl Refusal {
+    pub fn number(self) -> usize {
+        self as usize
+    }
+}

@@ -26,6 +26,12 @@ pub struct Stepped {
     pub said: Said,
 }
 
+#[derive(Clone, Copy)]
+pub struct Started {
+    pub twin: Twin,
+    pub refused: Option<Refusal>,
+}
+
 // How many objects are in the places of each kind.
 #[derive(Clone, Copy, Debug, PartialEq, Eq)]
 pub struct Counts {
@@ -36,91 +42,87 @@ pub struct Counts {
     pub carried: usize,
 }
 
-pub const BLANK: Twin = Twin {
-    trap: None,
-    threads: 0,
-    slots: 0,
-    links: 0,
-    objects: 0,
-    place: [Place::Nowhere; 240],
-    tag: [0; 240],
-    hazard: [0; 32],
-    mark: [false; 32],
-    task: [Task::IDLE; 8],
-};
-
 // 01: sizes "T threads 1 to 8, H hazard slots per thread 1 to 4, L links 1 to 16, N objects 1 to 240"; any other is refused 20
 // and gives the blank state.
-pub fn start(threads: usize, slots: usize, links: usize, objects: usize) -> Stepped {
+pub fn start(threads: usize, slots: usize, links: usize, objects: usize) -> Started {
     let good = (1..=8).contains(&threads)
         && (1..=4).contains(&slots)
         && (1..=16).contains(&links)
         && (1..=240).contains(&objects);
     if !good {
-        return BLANK.refused(Refusal::Sizes);
+        return Started {
+            twin: Twin::BLANK,
+            refused: Some(Refusal::Sizes),
+        };
     }
     let mut fresh = Twin {
         threads,
         slots,
         links,
         objects,
-        ..BLANK
+        ..Twin::BLANK
     };
     for place in fresh.place.iter_mut().take(objects) {
         *place = Place::Free;
     }
-    fresh.answer(0, 0, 0)
+    Started {
+        twin: fresh,
+        refused: None,
+    }
 }
 
-// An object's entry in a row.
-fn entry<T>(row: &mut [T], object: usize) -> Option<&mut T> {
-    row.get_mut(object.checked_sub(1)?)
+// Where an object stands in a row. Object 0 is none, and stands past the end of every row.
+fn index(object: usize) -> usize {
+    object.wrapping_sub(1)
 }
 
 impl Twin {
+    pub const BLANK: Twin = Twin {
+        trap: None,
+        threads: 0,
+        slots: 0,
+        links: 0,
+        objects: 0,
+        place: [Place::Nowhere; 240],
+        tag: [0; 240],
+        hazard: [0; 32],
+        mark: [false; 32],
+        task: [Task::IDLE; 8],
+    };
+
     pub fn in_trap(mut self, trap: Option<Trap>) -> Twin {
         self.trap = trap;
         self
     }
 
-    pub fn answer(self, number: usize, a: usize, b: usize) -> Stepped {
+    pub(crate) fn answer(self, number: usize, a: usize, b: usize) -> Stepped {
         let said = Said { number, a, b };
         Stepped { twin: self, said }
     }
 
     // "Refusals of a call return a = b = 0 and the same state."
-    pub fn refused(self, refusal: Refusal) -> Stepped {
-        self.answer(refusal as usize, 0, 0)
+    pub(crate) fn refused(self, refusal: Refusal) -> Stepped {
+        self.answer(refusal.number(), 0, 0)
     }
 
     // The lowest-numbered object at a place. 01: "0 means no object".
-    pub fn at(&self, wanted: Place) -> usize {
-        let objects = self.place.iter().take(self.objects);
-        match objects.copied().position(|place| place == wanted) {
-            Some(i) => i + 1,
-            None => 0,
-        }
+    pub(crate) fn at(&self, wanted: Place) -> usize {
+        let mut places = self.place.iter().take(self.objects);
+        places
+            .position(|&place| place == wanted)
+            .map_or(0, |i| i + 1)
     }
 
-    // An object goes to a place; object 0 is none.
-    pub fn put(&mut self, object: usize, place: Place) {
-        if let Some(there) = entry(&mut self.place, object) {
-            *there = place;
-        }
+    pub(crate) fn put(&mut self, object: usize, place: Place) {
+        plain::put(&mut self.place, index(object), place);
     }
 
-    // An object's tag, and that tag anew.
-    pub fn tag_of(&self, object: usize) -> usize {
-        match object.checked_sub(1) {
-            Some(i) => self.tag.get(i).copied().unwrap_or(0) as usize,
-            None => 0,
-        }
+    pub(crate) fn tag_of(&self, object: usize) -> usize {
+        self.tag.get(index(object)).copied().unwrap_or(0) as usize
     }
 
-    pub fn set_tag(&mut self, object: usize, tag: usize) {
-        if let Some(there) = entry(&mut self.tag, object) {
-            *there = plain::word(tag);
-        }
+    pub(crate) fn set_tag(&mut self, object: usize, tag: usize) {
+        plain::put(&mut self.tag, index(object), plain::word(tag));
     }
 
     fn count<F: Fn(Place) -> bool>(&self, is: F) -> usize
@@ -151,11 +153,8 @@ impl Twin {
     // Whether what a thread has in its hand is the hazard of a slot.
     pub fn hand_in_hazard(&self, t: usize) -> bool {
         let object = self.at(Place::hand(t));
-        object != 0
-            && self
-                .hazard
-                .iter()
-                .any(|&hazard| usize::from(hazard) == object)
+        let mut hazards = self.hazard.iter();
+        object != 0 && hazards.any(|&hazard| usize::from(hazard) == object)
     }
 
     pub fn in_link(&self, l: usize) -> usize {
@@ -163,7 +162,7 @@ impl Twin {
     }
 
     // The hazard at a position.
-    pub fn hazard_at(&self, p: usize) -> usize {
+    pub(crate) fn hazard_at(&self, p: usize) -> usize {
         self.hazard.get(p).copied().map_or(0, usize::from)
     }
 
@@ -180,24 +179,18 @@ impl Twin {
         self.task_of(t).doing != Doing::Idle
     }
 
-    // A thread is in the middle of something else, with an answer.
-    pub fn becomes(mut self, t: usize, next: Task, number: usize, a: usize, b: usize) -> Stepped {
-        if let Some(task) = self.task.get_mut(t) {
-            *task = next;
-        }
-        self.answer(number, a, b)
+    // A thread is in the middle of something else.
+    pub fn becomes(mut self, t: usize, task: Task) -> Twin {
+        plain::put(&mut self.task, t, task);
+        self
     }
 
-    pub fn set_hazard(&mut self, p: usize, object: usize) {
-        if let Some(hazard) = self.hazard.get_mut(p) {
-            *hazard = plain::byte(object);
-        }
+    pub(crate) fn set_hazard(&mut self, p: usize, object: usize) {
+        plain::put(&mut self.hazard, p, plain::byte(object));
     }
 
-    pub fn set_mark(&mut self, p: usize, on: bool) {
-        if let Some(mark) = self.mark.get_mut(p) {
-            *mark = on;
-        }
+    pub(crate) fn set_mark(&mut self, p: usize, on: bool) {
+        plain::put(&mut self.mark, p, on);
     }
 
     // A hazard anew, and its mark off. A trap that is early takes the handover here, and leaves the hazard to the drain.

@@ -10,7 +10,7 @@ use Rattle.records.specs.Writing.{answer_of, written_of}
 use Rattle.records.specs.Numbers as numbers
 
 unfoldable pub records_compute : Unit {0}
-unfolding marks.marked low_first number_of sizes_bytes step_bytes sizes_at step_at zeros_at_end reading.read_of rest_after rest_of answer_of written_of numbers.numbers_of numbers.numbers_of_written
+unfolding marks.marked low_first number_of sizes_bytes step_bytes sizes_at step_at zeros_at_end reading.read_of rest_after rest_of answer_of written_of numbers.malformed_number numbers.no_room_number numbers.numbers_of numbers.numbers_of_written
 records_compute = tt
 
 unfoldable pub computing : Unit {0}

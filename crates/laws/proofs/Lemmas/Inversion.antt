@@ -1,5 +1,5 @@
 -- Every call goes one of the ways: the one place that unfolds the rules.
-use Rattle.std.specs.Prelude.{ℕ, suc, ◌<◌, ◌≤◌, ◌≡◌, Bool, true, cond, ltb}
+use Rattle.std.specs.Prelude.{ℕ, suc, ◌<◌, ◌≤◌, ◌≡◌, Bool, true, cond, ltb, Option, Some, None}
 use Rattle.std.proofs.Common.{arith, sym, ◌∙◌, subst}
 use Rattle.std.proofs.Math.Path.{refl}
 use Rattle.std.proofs.Math.Bool.{false}
@@ -9,6 +9,7 @@ use borrow.Author.Tests.{eqb-true, eqb-false, ne_eqb, le-leb, ltb-true, ltb-fals
 use Rattle.machine.specs.declared.State.{State}
 use Rattle.machine.specs.declared.Call.{Call}
 use Rattle.machine.specs.declared.Outcome.{Outcome}
+use Rattle.machine.specs.declared.refusal.Refusal.{Refusal}
 use Rattle.entries.specs.declared.Phase.{Phase}
 use Rattle.entries.specs.declared.Phase.TheVariants.{Idle, Loaded, Sweeping, Published, Draining, Look, Swap, SweepLook, SweepSwap}
 use Rattle.basics.proofs.Rows.{first_some}
@@ -21,9 +22,9 @@ use Rattle.machine.specs.Parts.{link_at, phase_of, slot_at, position_of, with_sl
 use Rattle.machine.specs.Sound.{its_phase, its_slot, its_position}
 use Rattle.machine.specs.Calls.{outcome, expected, take_of, protect_of, swap_of, read_of, retire_of, clear_of}
 use Rattle.machine.specs.GoOn.{publish_of, confirm_of, nothing_found, empty_of, sweep_of, drain_of, look_of, hand_over_of, go_on_from, go_on_of}
-use Rattle.machine.specs.Refusals.{uses_slot, uses_link, without_slot, reads_slot, refusals, refusal_of}
+use Rattle.machine.specs.Refusals.{uses_slot, uses_link, without_slot, reads_slot, refusal_of}
 use Rattle.machine.specs.Accepted.{Accepted, accepted, by_operation}
-use Rattle.machine.specs.Step.{done_of, step_of}
+use Rattle.machine.specs.Step.{done_of, refused_or_done, step_of}
 use Rattle.laws.specs.Ways.{named, phase, Does, by_drain, by_sweep, Drains, NamesProtected, Way, refused, takes, begins, swaps, moves, reads, retires, clears, publishes, protects, finds_nothing, loads_again, finishes, sweeps, drains, meets, passes, frees, leaves, displaces}
 
 -- an outcome that a test chooses
@@ -214,9 +215,12 @@ module _ (s : State) (c : Call) (a : Accepted s c) where
       (λ op. is_done _ (rw op) (clear_way op))
       (λ op. is_done _ (rw op) (go_on_way op))
 
+-- by what the table gives
+by_table : (s : State) (c : Call) (given : Option Refusal) → refusal_of s c ≡ given → Way s c (refused_or_done s c given)
+unfolding refused_or_done refusal_of
+by_table s c None e = done_way s c (accepted s c e)
+by_table s c (Some refusal) e = refused (first_some e)
+
 pub way : (s : State) (c : Call) → Way s c (step_of s c)
-unfolding step_of refusal_of
-way s c =
-    chosen s c (eqb (refusal_of s c) 0) _ _
-    (λ none. done_way s c (accepted s c (eqb-true _ _ none)))
-    (λ some. refused (first_some (refusals s c) (eqb-false _ _ some)))
+unfolding step_of
+way s c = by_table s c (refusal_of s c) refl

@@ -1,29 +1,29 @@
 -- A refusal's number is the first line of the table that applies, and a refused call hands the state back.
-use Rattle.std.specs.Prelude.{ℕ, ◌≡◌, true, ◌↔◌}
+use Rattle.std.specs.Prelude.{◌≡◌, true, ◌↔◌}
 use native.Mathlib.Omega.{arith}
 use Rattle.std.proofs.Math.Path.{refl}
 use Rattle.std.proofs.Common.{sym, ap, ◌∙◌, subst}
 use Rattle.std.proofs.Math.Bool.{not, false≢true}
-use borrow.Author.Tests.{ne_eqb}
 use Rattle.machine.specs.declared.State.{State}
 use Rattle.machine.specs.declared.Call.{Call}
 use Rattle.machine.specs.declared.Outcome.{Outcome}
 use Rattle.machine.specs.declared.Answer.TheVariants.{Refused}
+use Rattle.machine.specs.declared.refusal.Refusal.{Refusal}
+use Rattle.machine.specs.declared.refusal.Refusal.TheVariants.{Unsound}
 use Rattle.basics.specs.Tests.{clash}
 use Rattle.basics.specs.Rows.{all_from, NoneApplies, FirstIs, here, later}
 use Rattle.basics.proofs.Rows.{first_is, none_is, first_from_lem}
-use Rattle.machine.specs.Answers.{numbers_of}
+use Rattle.machine.specs.Answers.{number_of, numbers_of}
 use Rattle.machine.specs.Soundness.{sound}
 use Rattle.machine.specs.Refusals.{state_rows, field_rows, thread_rows, object_rows, call_rows, refusals, refusal_of}
-use Rattle.machine.specs.Accepted.{refusals_high}
-use Rattle.machine.specs.Step.{step_of, done_of}
+use Rattle.machine.specs.Step.{step_of, refused_or_done, done_of}
 use Rattle.laws.specs.Promise.{KeepsState}
 use Rattle.laws.specs.Ways.{Way, refused, takes, begins, swaps, moves, reads, retires, clears, publishes, protects, finds_nothing, loads_again, finishes, sweeps, drains, meets, passes, frees, leaves, displaces}
 use Rattle.laws.proofs.Lemmas.Inversion.{way}
 
 module _ (s : State) (c : Call) where
-  pub refused_way : {o : Outcome} → Way s c o → (k : ℕ) → o.answer ≡ Refused k → (o.state ≡ s) × FirstIs (refusals s c) k
-  refused_way (refused {k = k} first) n e = let same : k ≡ n = cc in (refl, subst (FirstIs (refusals s c)) same first)
+  pub refused_way : {o : Outcome} → Way s c o → (refusal : Refusal) → o.answer ≡ Refused refusal → (o.state ≡ s) × FirstIs (refusals s c) refusal
+  refused_way (refused {refusal = refusal} first) n e = let same : refusal ≡ n = cc in (refl, subst (FirstIs (refusals s c)) same first)
   refused_way (takes d empty next free) n e = clash (cc)
   refused_way (begins d idle slot link read) n e = clash (cc)
   refused_way (swaps d link protected read same) n e = clash (cc)
@@ -44,34 +44,32 @@ module _ (s : State) (c : Call) where
   refused_way (leaves next d was inside empty ended fine) n e = clash (cc)
   refused_way (displaces next d was inside full scans) n e = clash (cc)
 
-  gives : (k : ℕ) → FirstIs (refusals s c) k → (step_of s c).answer ≡ Refused k
-  unfolding step_of refusal_of
-  gives k first =
-      let e = first_is first in
-      let high = first_from_lem (refusals_high s c) first in
-      rw (e, ne_eqb k 0 (λ z. omega arith))
+  gives : (refusal : Refusal) → FirstIs (refusals s c) refusal → (step_of s c).answer ≡ Refused refusal
+  unfolding step_of refused_or_done refusal_of
+  gives refusal first = rw (first_is first)
 
-  pub exactly : (k : ℕ) → (step_of s c).answer ≡ Refused k ↔ FirstIs (refusals s c) k
-  exactly k = ((λ e. (refused_way (way s c) k e).1), gives k)
+  pub exactly : (refusal : Refusal) → (step_of s c).answer ≡ Refused refusal ↔ FirstIs (refusals s c) refusal
+  exactly refusal = ((λ e. (refused_way (way s c) refusal e).1), gives refusal)
 
-  pub keeps_state_lem : (k : ℕ) → (step_of s c).answer ≡ Refused k → KeepsState s c k
+  pub keeps_state_lem : (refusal : Refusal) → (step_of s c).answer ≡ Refused refusal → KeepsState s c refusal
   unfolding numbers_of
-  keeps_state_lem k e = ((refused_way (way s c) k e).0, rw e)
+  keeps_state_lem refusal e = ((refused_way (way s c) refusal e).0, rw e)
 
   pub otherwise_done : NoneApplies (refusals s c) → step_of s c ≡ done_of s c
-  unfolding step_of refusal_of
+  unfolding step_of refused_or_done refusal_of
   otherwise_done all = rw (none_is all)
 
   -- of a sound state the table's first line does not apply, and the others have higher numbers
 
-  later_high : all_from 20 (call_rows s c) ≡ true
-  unfolding call_rows field_rows thread_rows object_rows all_from
+  later_high : all_from number_of 20 (call_rows s c) ≡ true
+  unfolding call_rows field_rows thread_rows object_rows all_from number_of
   later_high = refl
 
-  not_nineteen : sound s ≡ true → (k : ℕ) → FirstIs (refusals s c) k → k ≡ 19 → ⊥
+  not_nineteen : sound s ≡ true → (refusal : Refusal) → FirstIs (refusals s c) refusal → number_of refusal ≡ 19 → ⊥
   unfolding refusals state_rows
-  not_nineteen h k (here on) e = false≢true (sym (ap not h) ∙ on)
-  not_nineteen h k (later off rest) e = let high = first_from_lem later_high rest in omega arith
+  not_nineteen h refusal (here on) e = false≢true (sym (ap not h) ∙ on)
+  not_nineteen h refusal (later off rest) e = let high = first_from_lem number_of later_high rest in omega arith
 
-  pub sound_not_19 : sound s ≡ true → (step_of s c).answer ≡ Refused 19 → ⊥
-  sound_not_19 h e = not_nineteen h 19 (refused_way (way s c) 19 e).1 refl
+  pub sound_not_19 : sound s ≡ true → (step_of s c).answer ≡ Refused Unsound → ⊥
+  unfolding number_of
+  sound_not_19 h e = not_nineteen h Unsound (refused_way (way s c) Unsound e).1 refl

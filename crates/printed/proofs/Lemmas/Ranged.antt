@@ -1,12 +1,11 @@
 -- The sizes of a run that an input says are in range.
-use Rattle.std.specs.Prelude.{ℕ, ◌≡◌, true, List}
+use Rattle.std.specs.Prelude.{ℕ, ◌≡◌, true, List, Ok, Err, Some, None}
 use Rattle.basics.specs.Tests.{by_test}
 use Rattle.entries.specs.declared.Sizes.{Sizes}
 use Rattle.entries.specs.Sizes.{in_range}
 use Rattle.machine.specs.declared.Call.{Call}
-use Rattle.records.specs.declared.Read.{Read}
-use Rattle.records.specs.declared.Read.TheVariants as read
-use Rattle.records.specs.Reading.{read_of}
+use Rattle.records.specs.declared.Record.TheVariants.{Sizes as sizes_record, Step as step_record}
+use Rattle.records.specs.Reading.{Read, read_of}
 use Rattle.records.specs.Rest.{rest_of}
 use Rattle.schedule.specs.Said.{sizes_of}
 use Rattle.schedule.specs.Input.{Ending, Input, run, no_run, sized, begun, input_of}
@@ -21,10 +20,10 @@ sized_ranged z rest = by_test (Ranged (sized z rest)) (in_range z) (λ good. rw 
 
 begun_ranged : (found : Read) (rest : List ℕ) → Ranged (begun found rest)
 unfolding begun
-begun_ranged (read.Sizes r) rest = sized_ranged (sizes_of r) rest
-begun_ranged (read.Step r) rest = tt
-begun_ranged read.End rest = tt
-begun_ranged (read.Refused number) rest = tt
+begun_ranged (Ok (Some (sizes_record r))) rest = sized_ranged (sizes_of r) rest
+begun_ranged (Ok (Some (step_record r))) rest = tt
+begun_ranged (Ok None) rest = tt
+begun_ranged (Err why) rest = tt
 
 pub in_range_lem : (input : List ℕ) (z : Sizes) (calls : List Call) (ending : Ending) → input_of input ≡ run z calls ending → in_range z ≡ true
 unfolding input_of

@@ -9,6 +9,7 @@ use Rattle.machine.specs.declared.State.{State}
 use Rattle.entries.specs.declared.Sizes.{Sizes}
 use Rattle.machine.specs.declared.Call.{Call}
 use Rattle.machine.specs.declared.Answer.TheVariants.{Refused}
+use Rattle.machine.specs.declared.refusal.Refusal.TheVariants.{NotProtected, NoneFree}
 use Rattle.entries.specs.declared.Slot.{Slot}
 use Rattle.entries.specs.declared.Thread.{Thread}
 use Rattle.pool.specs.declared.Pool.{Pool}
@@ -26,6 +27,7 @@ use Rattle.pool.specs.Pool.{is_free, next_of, free_count, pool_good}
 use Rattle.pool.specs.Promise.{none_is_free, count_is_sum}
 use Rattle.machine.specs.Parts.{link_at, thread_at, hand_of, slot_at, position_of}
 use Rattle.machine.specs.Sound.{Ranged, Sound, from_sound}
+use Rattle.machine.specs.Answers.{number_of}
 use Rattle.machine.specs.Refusals.{reads_slot, state_rows, field_rows, thread_rows, object_rows, call_rows, refusals}
 use Rattle.machine.specs.Accepted.{fields_pass, thread_pass}
 use Rattle.machine.specs.Step.{step_of}
@@ -36,10 +38,10 @@ use Rattle.promise.proofs.Moments.{same_sizes, always_sound}
 use Rattle.promise.proofs.Lemmas.Waiting.{handovers_end, carried_end}
 
 -- 30's own condition: a take, and nothing is free
-thirty : (slot : Slot) (pool : Pool) (c : Call) → FirstIs (object_rows slot pool c) 30 → (c.operation ≡ 1) × (next_of pool ≡ 0)
-unfolding object_rows without
+thirty : (slot : Slot) (pool : Pool) (c : Call) → FirstIs (object_rows slot pool c) NoneFree → (c.operation ≡ 1) × (next_of pool ≡ 0)
+unfolding object_rows without number_of
 thirty slot pool c first =
-    let on = only_line (first_split ((31 when (reads_slot c && not slot.mark)) ∷ []) refl first).1 in
+    let on = only_line (first_split number_of ((NotProtected when (reads_slot c && not slot.mark)) ∷ []) refl first).1 in
     (eqb-true c.operation 1 (search ands), eqb-true (next_of pool) 0 (search ands))
 
 none_free : (n : ℕ) (pool : Pool) → pool_good n pool ≡ true → next_of pool ≡ 0 → free_count pool ≡ 0
@@ -65,15 +67,15 @@ module _ (s : State) (r : Ranged s) where
 
 module _ (s : State) (h : Sound s) (c : Call) where
   -- room for no more
-  starved : FirstIs (refusals s c) 30
+  starved : FirstIs (refusals s c) NoneFree
       → s.sizes.objects + 2 ≤ s.sizes.links + 2 * s.sizes.threads + s.sizes.threads * s.sizes.slots
-  unfolding refusals state_rows call_rows field_rows thread_rows without five_places
+  unfolding refusals state_rows call_rows field_rows thread_rows without number_of five_places
   starved first =
       let t = c.thread in
       let x = thread_at s t in
-      let after_state = (first_split (state_rows s) refl first).1 in
-      let fields = first_split (field_rows s.sizes c) refl after_state in
-      let thread = first_split (thread_rows x c.operation) refl fields.1 in
+      let after_state = (first_split number_of (state_rows s) refl first).1 in
+      let fields = first_split number_of (field_rows s.sizes c) refl after_state in
+      let thread = first_split number_of (thread_rows x c.operation) refl fields.1 in
       let under = (fields_pass s.sizes c fields.0).thread in
       let passed = thread_pass x c.operation thread.0 in
       let last = thirty (slot_at s (position_of s t c.slot)) s.pool c thread.1 in
@@ -93,10 +95,10 @@ module _ (s : State) (h : Sound s) (c : Call) where
       omega arith
 
 pub enough_records : (z : Sizes) → in_range z ≡ true → z.links + 2 * z.threads + z.threads * z.slots ≤ z.objects + 1
-    → (calls : List Call) (next : Call) → (step_of (state z calls) next).answer ≡ Refused 30 → ⊥
+    → (calls : List Call) (next : Call) → (step_of (state z calls) next).answer ≡ Refused NoneFree → ⊥
 enough_records z h enough calls next e =
     let s = state z calls in
-    let room = starved s (always_sound z h calls) next ((refused_exactly s next 30).0 e) in
+    let room = starved s (always_sound z h calls) next ((refused_exactly s next NoneFree).0 e) in
     let room' =
     subst (λ (y : Sizes). y.objects + 2 ≤ y.links + 2 * y.threads + y.threads * y.slots) (same_sizes z h calls) room
     in

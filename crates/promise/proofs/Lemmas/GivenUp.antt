@@ -202,7 +202,7 @@ module _ (s : State) (c : Call) (m : Memory) (r : Reading) (store : Store) (give
 
   pub given_step : {o : Outcome} → Way s c o → Sound o.state → After o
   unfolding given_by is_retire is_freed numbers_of noted carried_by
-  given_step (refused {k = k} first) after =
+  given_step (refused first) after =
       let not_freed = no_answer s c first 11 (omega arith) in
       let not_begun = no_answer s c first 2 (omega arith) in
       rw (not_freed, not_begun, both_off (eqb c.operation 5)) g

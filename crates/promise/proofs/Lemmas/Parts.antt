@@ -4,6 +4,7 @@ use Rattle.std.proofs.Common.{arith, sym, ap, ◌∙◌, subst}
 use Rattle.entries.specs.declared.Sizes.{Sizes}
 use Rattle.machine.specs.declared.Call.{Call}
 use Rattle.machine.specs.declared.Answer.TheVariants.{Refused, Freed}
+use Rattle.machine.specs.declared.refusal.Refusal.TheVariants.{Unsound}
 use Rattle.entries.specs.Sizes.{in_range, positions}
 use Rattle.machine.specs.Parts.{slot_at}
 use Rattle.machine.specs.Fresh.{fresh_of}
@@ -70,7 +71,7 @@ module _ (z : Sizes) (h : in_range z ≡ true) (calls : List Call) where
   pub places_sum : let p = five_places (state z calls) in p.free + p.links + p.hands + p.handovers + p.carried ≡ z.objects
   places_sum = five_places_sum (state z calls) (from_sound (state z calls) invariant.sound) ∙ ap (λ (y : Sizes). y.objects) same_sizes
 
-  pub never_unsound : (next : Call) → (step_of (state z calls) next).answer ≡ Refused 19 → ⊥
+  pub never_unsound : (next : Call) → (step_of (state z calls) next).answer ≡ Refused Unsound → ⊥
   never_unsound next e = sound_never_19 (state z calls) next (from_sound (state z calls) invariant.sound) e
 
   pub freed_unheld : (next : Call) (object : ℕ) → (step_of (state z calls) next).answer ≡ Freed object

@@ -18,7 +18,7 @@ use Rattle.entries.specs.Entries.{empty_slot, with_hazard, with_handover}
 use Rattle.entries.specs.Phases.{protecting}
 use Rattle.machine.specs.Parts.{slot_at, position_of}
 use Rattle.machine.specs.Sound.{Sound, slot_long, its_position}
-use Rattle.machine.specs.Answers.{numbers_of}
+use Rattle.machine.specs.Answers.{number_of, numbers_of}
 use Rattle.machine.specs.Accepted.{refusals_high}
 use Rattle.machine.specs.Step.{step_of}
 use Rattle.laws.proofs.Promise.{way}
@@ -74,8 +74,8 @@ module _ (s : State) (c : Call) (m : Memory) (h : Sound s) (g : Guarded s) (aske
 
   stays : {o : Outcome} → Way s c o → Renewed s m c p o ≡ false → Stays s c p o
   unfolding renews hands_out numbers_of protecting
-  stays (refused {k = k} first) still =
-      let high = first_from_lem (refusals_high s c) first in
+  stays (refused first) still =
+      let high = first_from_lem number_of (refusals_high s c) first in
       untouched _ refl (λ n. omega arith)
   stays (takes {o = o} d empty next free) still =
       record {

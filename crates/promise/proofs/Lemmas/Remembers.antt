@@ -81,7 +81,7 @@ module _ (s : State) (c : Call) (m : Memory) (h : Sound s) (v : Remembers s m) w
 
   pub remembers_kept : {o : Outcome} → Way s c o → Remembers o.state (after m c o)
   unfolding remembered numbers_of protecting
-  remembers_kept (refused {k = k} first) =
+  remembers_kept (refused first) =
       rw (not_accepted s c first) v
   remembers_kept (takes d empty next free) = rw d.operation (kept d _ refl refl _ _ (v.fits t d.thread))
   remembers_kept (begins d idle slot link read) =

@@ -141,7 +141,7 @@ module _ (s : State) (c : Call) (m : Memory) (r : Reading) (store : Store) (v : 
 
   pub matches : {o : Outcome} → Way s c o → Matches s c m r store o
   unfolding listed_of at_once numbers_of noted renamed says next
-  matches (refused {k = k} first) =
+  matches (refused first) =
       none_listed s c m r store _ (rw (not_accepted s c first)) v.same
   matches (takes {o = o} d empty is free) =
       let n = s.sizes.objects in

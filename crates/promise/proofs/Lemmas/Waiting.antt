@@ -88,7 +88,7 @@ module _ (s : State) (c : Call) (h : Sound s) where
 
   pub waiting_kept : {o : Outcome} → Way s c o → Still s c o
   unfolding is_retire is_freed numbers_of carried_by bit
-  waiting_kept (refused {k = k} first) =
+  waiting_kept (refused first) =
       let not_freed = no_answer s c first 11 (omega arith) in
       let not_begun = no_answer s c first 2 (omega arith) in
       simp (not_freed, not_begun, both_off (eqb c.operation 5))

@@ -1,5 +1,5 @@
 -- An object that a slot protects, in any run: kept, and at or below that slot.
-use Rattle.std.specs.Prelude.{ℕ, ◌<◌, ◌≤◌, ◌≡◌, true, false, List}
+use Rattle.std.specs.Prelude.{ℕ, ◌<◌, ◌≤◌, ◌≡◌, true, false, List, Option, None, Some}
 use native.Mathlib.Omega.{arith}
 use Rattle.std.proofs.Math.Path.{refl}
 use Rattle.std.proofs.Common.{sym, subst}
@@ -18,8 +18,6 @@ use Rattle.promise.specs.Guard.{Guard}
 use Rattle.promise.proofs.Moments.{same_sizes, always_sound, always_guarded}
 use Rattle.reasons.specs.declared.Reason.{Reason}
 use Rattle.reasons.specs.declared.Reason.TheVariants.{Link, Hand, Carried, Handover}
-use Rattle.reasons.specs.declared.Hazard.{Hazard}
-use Rattle.reasons.specs.declared.Hazard.TheVariants.{At, Nowhere}
 use Rattle.reasons.specs.Reasons.{reason_of, hazard_of, why_of}
 use Rattle.reasons.specs.Numbers.{reason_number, reason_a, reason_b, hazard_number, hazard_position, numbers_of, Sheltered}
 use Rattle.reasons.specs.Applies.{Stays, Applies, FirstHazard}
@@ -55,16 +53,16 @@ module _ (s : State) (p : ℕ) (inside : p < positions s.sizes) (g : Guard s p (
       omega arith
   carried_below (Handover q guard) a e = absurd (omega arith)
 
-  hazard_below : (h : Hazard) → FirstHazard s o h → (hazard_number h ≡ 1) × (hazard_position h ≤ p)
+  hazard_below : (h : Option ℕ) → FirstHazard s o h → (hazard_number h ≡ 1) × (hazard_position h ≤ p)
   unfolding hazard_number hazard_position
-  hazard_below (At q) a = (
+  hazard_below (Some q) a = (
     refl,
     ⊎_elim
         (λ (e : ltb p q ≡ true). absurd (a.1.1 p (ltb-true _ _ e) refl))
         (λ (e : ltb p q ≡ false). ltb-false _ _ e)
         (tested (ltb p q)),
   )
-  hazard_below Nowhere a = absurd (a p inside refl)
+  hazard_below None a = absurd (a p inside refl)
 
   pub read : Stays s o → Sheltered (numbers_of (why_of s o)) p
   unfolding numbers_of

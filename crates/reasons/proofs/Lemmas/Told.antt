@@ -1,29 +1,22 @@
 -- What is told of an object: refused by the table, or by its reason and its first hazard.
-use Rattle.std.specs.Prelude.{ℕ, ◌<◌, ◌≤◌, ◌≡◌, Bool, true, ◌↔◌}
-use native.Mathlib.Omega.{arith}
-use Rattle.std.proofs.Common.{sym, ap, subst, ◌∙◌}
-use Rattle.std.proofs.Math.Bool.{false}
+use Rattle.std.specs.Prelude.{ℕ, ◌<◌, ◌≤◌, ◌≡◌, true, ◌↔◌, Option, Some, Ok, Err}
+use Rattle.std.proofs.Common.{arith, sym, ◌∙◌}
 use Rattle.std.proofs.lemmas.Bool.{false≢true}
-use Rattle.std.proofs.Math.Logic.{⊎_elim}
-use Rattle.std.proofs.Math.Dec.{eqb}
-use borrow.Author.Tests.{eqb-false, ne_eqb}
 use Rattle.machine.specs.declared.State.{State}
 use Rattle.machine.specs.Parts.{free_at}
 use Rattle.machine.specs.Soundness.{sound}
-use Rattle.basics.specs.Rows.{FirstIs, here, later}
+use Rattle.basics.specs.Rows.{FirstIs}
 use Rattle.basics.proofs.Rows.{first_is, first_some}
-use Rattle.basics.specs.Tests.{tested}
 use Rattle.machine.specs.Sound.{Sound, to_sound}
 use Rattle.laws.specs.OnePlace.{link_not_free, hand_not_free, carried_not_free, handover_not_free}
 use Rattle.reasons.specs.declared.Reason.{Reason}
 use Rattle.reasons.specs.declared.Reason.TheVariants.{Link, Hand, Carried, Handover}
-use Rattle.reasons.specs.declared.Hazard.{Hazard}
-use Rattle.reasons.specs.declared.Explained.{Explained}
-use Rattle.reasons.specs.declared.Explained.TheVariants.{Kept, Refused}
+use Rattle.reasons.specs.declared.NotKept.{NotKept}
+use Rattle.reasons.specs.declared.NotKept.TheVariants.{Unsound, NoSuchObject, Free}
 use Rattle.reasons.specs.Reasons.{reason_of, hazard_of, refusals, refusal_of, why_of}
-use Rattle.reasons.specs.Numbers.{numbers_of}
+use Rattle.reasons.specs.Numbers.{number_of, numbers_of}
 use Rattle.reasons.specs.Applies.{Stays, Applies, FirstHazard}
-use Rattle.reasons.proofs.Lemmas.NotRefused.{not_refused}
+use Rattle.reasons.proofs.Lemmas.NotRefused.{not_refused, unless_err}
 use Rattle.reasons.proofs.Lemmas.Named.{only_one}
 use Rattle.reasons.proofs.Lemmas.Hazards.{only_hazard}
 
@@ -37,50 +30,37 @@ free_has_none s fine o some most free r a = by_case (to_sound s fine) r a
     by_case h (Carried t p) a = false≢true (sym (carried_not_free s h o some most t a.0 a.1.0) ∙ free)
     by_case h (Handover p g) a = false≢true (sym (handover_not_free s h o some most p a.0 a.1.0) ∙ free)
 
-pub explained : (s : State) (o : ℕ) → Stays s o → why_of s o ≡ Kept (reason_of s o) (hazard_of s o)
+pub explained : (s : State) (o : ℕ) → Stays s o → why_of s o ≡ Ok (record { reason = reason_of s o; hazard = hazard_of s o })
 unfolding why_of
 explained s o stays = rw (not_refused s o stays)
 
-pub told_as : (s : State) (o : ℕ) → Stays s o → (r : Reason) (h : Hazard) → Applies s o r → FirstHazard s o h
-    → numbers_of (why_of s o) ≡ numbers_of (Kept r h)
+pub told_as : (s : State) (o : ℕ) → Stays s o → (r : Reason) (h : Option ℕ) → Applies s o r → FirstHazard s o h
+    → numbers_of (why_of s o) ≡ numbers_of (Ok (record { reason = r; hazard = h }))
 told_as s o stays r h applies first =
     rw (explained s o stays, ← only_one s o stays r applies, ← only_hazard s o h first)
 
-abbrev is_refused : Explained → Bool
-is_refused (Kept reason hazard) = false
-is_refused (Refused number) = true
+some_number : (k : NotKept) → number_of k ≡ 0 → ⊥
+unfolding number_of
+some_number Unsound e = omega arith
+some_number NoSuchObject e = omega arith
+some_number Free e = omega arith
 
-module _ (s : State) (o : ℕ) where
-  is_refused_lem : (k : ℕ) → why_of s o ≡ Refused k → (refusal_of s o ≡ 0 → ⊥) × (refusal_of s o ≡ k)
+module _ (s : State) (o : ℕ) (k : NotKept) where
+  is_refused_lem : why_of s o ≡ Err k → refusal_of s o ≡ Some k
   unfolding why_of
-  is_refused_lem k e =
-      ⊎_elim
-      (λ (done : eqb (refusal_of s o) 0 ≡ true).
-      let odd : Kept (reason_of s o) (hazard_of s o) ≡ Refused k = rw done at e in
-      absurd (false≢true (ap is_refused odd)))
-      (λ (not_done : eqb (refusal_of s o) 0 ≡ false).
-      let same : Refused (refusal_of s o) ≡ Refused k = rw not_done at e in
-      (eqb-false _ _ not_done, cc))
-      (tested (eqb (refusal_of s o) 0))
+  is_refused_lem = unless_err _ _ k
 
-  first_of : (refusal_of s o ≡ 0 → ⊥) → FirstIs (refusals s o) (refusal_of s o)
+  first_of : refusal_of s o ≡ Some k → FirstIs (refusals s o) k
   unfolding refusal_of
-  first_of = first_some (refusals s o)
+  first_of = first_some
 
   -- no line has the number 0
-  number_some : (k : ℕ) → FirstIs (refusals s o) k → k ≡ 0 → ⊥
-  unfolding refusals
-  number_some k (here on) e = omega arith
-  number_some k (later off (here on)) e = omega arith
-  number_some k (later off (later off' (here on))) e = omega arith
-  number_some k (later off (later off' (later _ rest))) e = elim rest [ ]
+  number_some : FirstIs (refusals s o) k → number_of k ≡ 0 → ⊥
+  number_some first e = some_number k e
 
-  gives : (k : ℕ) → FirstIs (refusals s o) k → why_of s o ≡ Refused k
+  gives : FirstIs (refusals s o) k → why_of s o ≡ Err k
   unfolding why_of refusal_of
-  gives k first =
-      let e = first_is first in
-      let some : eqb k 0 ≡ false = ne_eqb k 0 (number_some k first) in
-      rw (e, some)
+  gives first = rw (first_is first)
 
-  pub refused_exactly : (k : ℕ) → why_of s o ≡ Refused k ↔ FirstIs (refusals s o) k
-  refused_exactly k = ((λ e. let r = is_refused_lem k e in subst (FirstIs (refusals s o)) r.1 (first_of r.0)), gives k)
+  pub refused_exactly : why_of s o ≡ Err k ↔ FirstIs (refusals s o) k
+  refused_exactly = ((λ e. first_of (is_refused_lem e)), gives)

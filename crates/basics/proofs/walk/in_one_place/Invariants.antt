@@ -1,12 +1,7 @@
-use Prim.Native.Nat.{◌≤◌, ◌-◌}
-use mathlib.Core.Path.{◌≡◌}
-use lib.ListN.{get_or}
-use lib.Dec.{eqb}
-use Rattle.basics.specs.Counts.{count_under}
+use Rattle.std.specs.Prelude.{◌≡◌, ◌+◌, ◌≤◌, get_or, eqb}
+use Rattle.basics.specs.Counts.{bit, count_under}
 use Rattle.basics.proofs.walk.in_one_place.Given as goal
 
-abbrev pub invariant-loop-i : goal.invariant-loop-i
-invariant-loop-i l = (l.i ≤ 64) × (l.n ≡ count_under l.i (λ j. eqb (get_or l.row j 0) l.object))
-
-abbrev pub decreases-loop-i : goal.decreases-loop-i
-decreases-loop-i l = 64 - l.i
+-- the free mark and the numbers passed are counted
+abbrev pub invariant-loop-x : goal.invariant-loop-x
+invariant-loop-x l = (l.x-index ≤ 64) × (l.n ≡ bit l.free + count_under l.x-index (λ i. eqb (get_or l.row i 0) l.object))

@@ -9,9 +9,10 @@ put_steps-requires c =
     let sizes = c.put_sizes.ensures in
     (omega (arith, sizes.within, sizes.wrote.written.next), omega (arith, length_after sizes.wrote (omega (arith, sizes.within))))
 
-pub returns-in-Good : goal.returns-in-Good
-returns-in-Good c = rw (good_text_lem _ _ c.open-opened.ensures c.in-Good.is, ← c.rest.ensures)
+pub returns-in-Ok : goal.returns-in-Ok
+returns-in-Ok c = rw (good_text_lem _ _ c.open-opened.ensures c.in-Ok.is, ← c.rest.ensures)
     (then c.put_sizes.ensures.wrote (omega (arith, c.put_sizes.ensures.within, c.requires)) c.put_steps.ensures)
 
-pub returns-in-Refused : goal.returns-in-Refused
-returns-in-Refused c = rw (refused_text _ _ c.open-opened.ensures _ c.in-Refused.is) c.put_stop.ensures.wrote
+pub returns-in-Err : goal.returns-in-Err
+returns-in-Err c = rw (refused_text _ _ c.open-opened.ensures _ c.in-Err.is, ← c.number.ensures)
+    c.put_stop.ensures.wrote

@@ -25,6 +25,6 @@ pub returns : goal.returns
 unfolding ascii
 returns c =
     both_within (ascii "end" ++ 32 ∷ []) _ (split c.args.steps c.args.places)
-        (end_short c.args.steps c.args.places c.requires.0 (search rules) (search rules) (search rules) (search rules) (search rules))
-        c.requires.1 c.put_bytes.ensures
-        (rw (c.from.ensures, c.from-2.ensures, c.from-3.ensures, c.from-4.ensures, c.from-5.ensures) at c.put_line.ensures)
+    (end_short c.args.steps c.args.places c.requires.0 (search rules) (search rules) (search rules) (search rules) (search rules))
+    c.requires.1 c.put_bytes.ensures
+    (rw (c.from.ensures, c.from-2.ensures, c.from-3.ensures, c.from-4.ensures, c.from-5.ensures) at c.put_line.ensures)

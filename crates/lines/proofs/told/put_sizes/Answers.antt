@@ -10,6 +10,6 @@ pub returns : goal.returns
 unfolding bytes_of sizes_line
 returns c =
     put_within
-        (sizes_short c.args.sizes (search rules) (search rules) (search rules) (search rules))
-        c.requires
-        (rw (c.from.ensures, c.from-2.ensures, c.from-3.ensures, c.from-4.ensures) at c.put_line.ensures)
+    (sizes_short c.args.sizes (search rules) (search rules) (search rules) (search rules))
+    c.requires
+    (rw (c.from.ensures, c.from-2.ensures, c.from-3.ensures, c.from-4.ensures) at c.put_line.ensures)

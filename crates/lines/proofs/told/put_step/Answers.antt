@@ -1,5 +1,5 @@
 -- `lines::told::put_step` meets its contract: it hands over the numbers of `step_line`, the answer's as `Numbers::from` gives them.
-use Rattle.std.proofs.Common.{ℕ, ◌≡◌, List, [], ◌∷◌, map}
+use Rattle.std.proofs.Common.{ℕ, ◌≡◌, [], ◌∷◌, map}
 use Rattle.machine.specs.declared.Call.{Call}
 use Rattle.machine.specs.declared.Answer.{Answer}
 use Rattle.machine.specs.Answers.{numbers, numbers_of}
@@ -34,4 +34,4 @@ returns c =
     (search rules)
     (search rules) in
     put_within short c.requires.1
-        (rw (line-bytes c.args.number c.args.step c.args.answer _ _ _ told) (rw (c.from.ensures, c.from-2.ensures, c.from-3.ensures) at c.put_line.ensures))
+    (rw (line-bytes c.args.number c.args.step c.args.answer _ _ _ told) (rw (c.from.ensures, c.from-2.ensures, c.from-3.ensures) at c.put_line.ensures))

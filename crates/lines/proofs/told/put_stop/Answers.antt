@@ -1,5 +1,5 @@
 -- `lines::told::put_stop` meets its contract: the word, a space and then the numbers of `stop_line`.
-use Rattle.std.proofs.Common.{ℕ, ◌≡◌, List, [], ◌∷◌, ◌++◌, map, lit<}
+use Rattle.std.proofs.Common.{ℕ, ◌≡◌, [], ◌∷◌, ◌++◌, map, lit<}
 use Rattle.text.specs.Decimal.{decimal}
 use Rattle.text.specs.Fields.{joined}
 use Rattle.basics.specs.Ascii.{ascii}
@@ -19,6 +19,6 @@ pub returns : goal.returns
 unfolding ascii
 returns c =
     both_within (ascii "stop" ++ 32 ∷ []) _ (split c.args.before c.args.number)
-        (stop_short c.args.before c.args.number c.requires.0 (search rules))
-        c.requires.1 c.put_bytes.ensures
-        (rw c.from.ensures at c.put_line.ensures)
+    (stop_short c.args.before c.args.number c.requires.0 (search rules))
+    c.requires.1 c.put_bytes.ensures
+    (rw c.from.ensures at c.put_line.ensures)

@@ -1,24 +1,26 @@
--- `why` meets its contract: what is refused has its number, and what is kept its reason and its first hazard.
-use borrow.Author.Tests.{ne_eqb}
-use mathlib.Core.Path.{sym, ◌∙◌}
-use Rattle.reasons.specs.Reasons.{hazard_at, hazard_of, why_of}
+-- `why` meets its contract: what is refused is answered by its line, and what is kept by its reason and its first hazard.
+use Rattle.std.proofs.Common.{sym, ◌∙◌, rules}
+use Rattle.reasons.specs.Reasons.{checked_of, hazard_at, hazard_of, why_of}
 use Rattle.reasons.proofs.Picks.{limited}
+use Rattle.reasons.proofs.Lemmas.NotRefused.{unless_ok, unless_err}
 use Rattle.reasons.proofs.explain.why.Goals as goal
 
-pub returns-then-number-ne0 : goal.returns-then-number-ne0
-unfolding why_of
-returns-then-number-ne0 c = let e = c.refusal-number.ensures in
-    rw (← e, ne_eqb _ _ c.if-number-ne0.true)
+pub returns-in_err-check : goal.returns-in_err-check
+unfolding why_of checked_of
+returns-in_err-check c = let e = unless_err _ tt _ (sym c.check.ensures ∙ c.in_err-check.was) in rw e (search rules)
+
+pub reason_of-requires : goal.reason_of-requires
+unfolding checked_of
+reason_of-requires c = unless_ok _ tt _ (sym c.check.ensures ∙ c.in_ok-check.was)
 
 pub first_hazard-requires : goal.first_hazard-requires
-first_hazard-requires c = let most = limited c.args.state _ (sym c.refusal-number.ensures ∙ c.if-number-ne0.false) in
+unfolding checked_of
+first_hazard-requires c =
+    let most = limited c.args.state _ (unless_ok _ tt _ (sym c.check.ensures ∙ c.in_ok-check.was)) in
     (most.threads, most.slots)
 
 pub returns : goal.returns
-unfolding why_of hazard_of hazard_at
-returns c = rw (
-  ← c.refusal-number.ensures,
-  c.if-number-ne0.false,
-  c.reason_of-reason.ensures,
-  c.first_hazard.ensures,
-)
+unfolding why_of checked_of hazard_of hazard_at
+returns c =
+    let e = unless_ok _ tt _ (sym c.check.ensures ∙ c.in_ok-check.was) in
+    rw (e, c.reason_of.ensures, c.first_hazard.ensures)

@@ -2,7 +2,7 @@
 -- was.
 use mathlib.Core.Path.{◌≡◌, refl, sym, ◌∙◌}
 use native.Mathlib.Omega.{arith}
-use Rattle.schedule.specs.declared.Next.TheVariants.{Call}
+use Rattle.std.specs.Prelude.{Ok, Some, None}
 use Rattle.schedule.specs.Going.{next_of}
 use Rattle.schedule.specs.Asked.{found_of}
 use Rattle.schedule.proofs.Turns.{call_room}
@@ -11,38 +11,37 @@ use Rattle.text.specs.Nothing.{nothing}
 use Rattle.sentences.proofs.Endings.{step_end, well_end, stop_end}
 use Rattle.sentences.proofs.ending.put_end.Goals as goal
 
-pub loop-call-init : goal.loop-call-init
+pub loop-found-init : goal.loop-found-init
 unfolding found_of
-loop-call-init c = (omega arith, refl, refl)
+loop-found-init c = (omega arith, refl, refl)
 
-pub loop-call-preserved : goal.loop-call-preserved
-loop-call-preserved c =
-    let at = c.loop-call in
+pub loop-found-preserved : goal.loop-found-preserved
+loop-found-preserved c =
+    let at = c.loop-found in
     -- a call stands next, so fewer than 6,000 steps were done
-    let stands : next_of at.steps at.left.now ≡ Call c.in-Call.call = sym c.next-found.ensures ∙ c.in-Call.is in (
+    let stands : next_of at.steps at.left.now ≡ Ok (Some c.in-Some.call) = cc in (
       omega (arith, call_room _ _ _ stands),
       at.invariant.1,
-      rw (c.rest-after.ensures, c.step-done.ensures)
-          (sym (step_end at.steps at.now_at at.left.now at.invariant.0 c.in-Call.call stands) ∙ at.invariant.2),
+      rw (c.rest-left.ensures, c.step.ensures)
+          (sym (step_end at.steps at.now_at at.left.now at.invariant.0 c.in-Some.call stands) ∙ at.invariant.2),
     )
 
 pub put_lines-requires : goal.put_lines-requires
-put_lines-requires c = rw c.loop-call.invariant.1 c.requires
+put_lines-requires c = rw c.loop-found.invariant.1 c.requires
 
-pub returns-in-End : goal.returns-in-End
+pub returns-in_default : goal.returns-in_default
 unfolding text_at
-returns-in-End c =
-    let at = c.loop-call in
-    let here =
-    sym at.invariant.2 ∙
-    well_end at.steps at.now_at at.left.now at.invariant.0 (sym c.next-found.ensures ∙ c.in-End.is) in
+returns-in_default c =
+    let at = c.loop-found in
+    let stands : next_of at.steps at.left.now ≡ Ok None = cc in
+    let here = sym at.invariant.2 ∙ well_end at.steps at.now_at at.left.now at.invariant.0 stands in
     rw (here, ← at.invariant.1) c.put_lines.ensures
 
-pub returns-in-Stop : goal.returns-in-Stop
+pub returns-in-Err : goal.returns-in-Err
 unfolding text_at
-returns-in-Stop c =
-    let at = c.loop-call in
+returns-in-Err c =
+    let at = c.loop-found in
     let here =
     sym at.invariant.2 ∙
-    stop_end at.steps at.now_at at.left.now at.invariant.0 _ (sym c.next-found.ensures ∙ c.in-Stop.is) in
+    stop_end at.steps at.now_at at.left.now at.invariant.0 _ (sym c.next.ensures ∙ c.in-Err.is) in
     rw (here, at.invariant.1) (nothing _ _)

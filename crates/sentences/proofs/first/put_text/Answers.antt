@@ -4,11 +4,10 @@ use Rattle.text.specs.Nothing.{nothing}
 use Rattle.sentences.proofs.Endings.{good_end, refused_end}
 use Rattle.sentences.proofs.first.put_text.Goals as goal
 
-pub returns-in-Good : goal.returns-in-Good
+pub returns-in-Ok : goal.returns-in-Ok
 unfolding text_of
-returns-in-Good c = rw (good_end _ _ c.open-opened.ensures c.in-Good.is, ← c.rest-left.ensures)
-    c.put_end.ensures
+returns-in-Ok c = rw (good_end _ _ c.open-opened.ensures c.in-Ok.is, ← c.rest.ensures) c.put_end.ensures
 
-pub returns-in-Refused : goal.returns-in-Refused
+pub returns-in-Err : goal.returns-in-Err
 unfolding text_of text_at
-returns-in-Refused c = rw (refused_end _ _ c.open-opened.ensures _ c.in-Refused.is) (nothing _ _)
+returns-in-Err c = rw (refused_end _ _ c.open-opened.ensures _ c.in-Err.is) (nothing _ _)

@@ -6,10 +6,10 @@ use Rattle.text.specs.Words.{filled}
 use Rattle.sentences.specs.Sentence.{hazard_words}
 use Rattle.sentences.proofs.sentence.put_hazard.Goals as goal
 
-pub returns-in-At : goal.returns-in-At
+pub returns-in-Some : goal.returns-in-Some
 unfolding hazard_words filled ascii
-returns-in-At c = (omega (arith, c.put_filled.ensures.within), rw (c.in-At.is, ← c.thread_of-thread.ensures, ← c.slot_of-slot.ensures) (fitted (omega arith) c.put_filled.ensures.put))
+returns-in-Some c = (omega (arith, c.put_filled.ensures.within), rw (c.in-Some.is, ← c.thread_of-thread.ensures, ← c.slot_of-slot.ensures) (fitted (omega arith) c.put_filled.ensures.put))
 
-pub returns-in-Nowhere : goal.returns-in-Nowhere
+pub returns-in-None : goal.returns-in-None
 unfolding hazard_words filled ascii
-returns-in-Nowhere c = (omega (arith, c.put_filled-in-Nowhere.ensures.within), rw c.in-Nowhere.is (fitted (omega arith) c.put_filled-in-Nowhere.ensures.put))
+returns-in-None c = (omega (arith, c.put_filled-in-None.ensures.within), rw c.in-None.is (fitted (omega arith) c.put_filled-in-None.ensures.put))

@@ -5,15 +5,16 @@ use Rattle.text.specs.Nothing.{nothing}
 use Rattle.sentences.specs.Sentence.{line_of}
 use Rattle.sentences.proofs.sentence.put_line.Goals as goal
 
-pub returns-in-Kept : goal.returns-in-Kept
+pub returns-in-Ok : goal.returns-in-Ok
 unfolding line_of
-returns-in-Kept c = let reason = c.put_reason-next.ensures in
+returns-in-Ok c =
+    let reason = c.put_reason-next.ensures in
     let hazard = c.put_hazard.ensures in (
       omega (arith, reason.0, hazard.0),
-      rw c.in-Kept.is
+      rw (← c.why.ensures, c.in-Ok.is)
           (then reason.1 (omega (arith, reason.0, reason.1.next, c.requires)) hazard.1),
     )
 
-pub returns-in-Refused : goal.returns-in-Refused
+pub returns-in-Err : goal.returns-in-Err
 unfolding line_of
-returns-in-Refused c = (omega arith, rw c.in-Refused.is (nothing _ _))
+returns-in-Err c = (omega arith, rw (← c.why.ensures, c.in-Err.is) (nothing _ _))
