@@ -3,12 +3,10 @@ use Rattle.std.specs.Prelude.{ℕ, ◌≡◌, refl, Bool, true, false, cond, ◌
 use Rattle.machine.specs.declared.State.{State}
 use Rattle.machine.specs.declared.Call.{Call}
 use Rattle.machine.specs.declared.Outcome.{Outcome}
-use Rattle.machine.specs.declared.Answer.TheVariants.{Refused}
 use Rattle.machine.specs.declared.refusal.Refusal.{Refusal}
 use Rattle.entries.specs.declared.Phase.{Phase}
 use Rattle.entries.specs.declared.Phase.TheVariants.{Idle, Loaded, Sweeping, Published, Draining, Look, Swap, SweepLook, SweepSwap}
 use Rattle.machine.specs.Parts.{phase_of}
-use Rattle.machine.specs.Calls.{outcome}
 use Rattle.machine.specs.Refusals.{refusal_of}
 use Rattle.machine.specs.Step.{done_of, refused_or, step_of}
 use Rattle.edges.specs.Runs.{Machine}

@@ -1,6 +1,6 @@
 -- The soundness check with its lists walked once, so that runs are computed in seconds. Nothing here has to be believed: it is shown to be the
 -- definitions' own check, and the statements are over theirs.
-use Rattle.std.specs.Prelude.{ℕ, suc, ◌≡◌, Bool, cond, not, ◌&&◌, ◌∷◌, eqb, Option, Ok, Err}
+use Rattle.std.specs.Prelude.{suc, ◌≡◌, Bool, cond, not, ◌&&◌, ◌∷◌, eqb, Option, Ok, Err}
 use Rattle.machine.specs.declared.State.{State}
 use Rattle.machine.specs.declared.Call.{Call}
 use Rattle.machine.specs.declared.Outcome.{Outcome}
