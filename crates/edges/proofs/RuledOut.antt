@@ -5,6 +5,7 @@ use Rattle.std.proofs.Math.Dec.{eqb_refl}
 use Rattle.machine.specs.declared.State.{State}
 use Rattle.machine.specs.declared.Call.{Call}
 use Rattle.machine.specs.declared.Answer.{Answer}
+use Rattle.machine.specs.declared.refusal.Refusal.{Refusal}
 use Rattle.machine.specs.declared.Work.{Work}
 use Rattle.machine.specs.declared.Outcome.{Outcome}
 use Rattle.machine.specs.Parts.{hand_of, free_at}
@@ -30,9 +31,9 @@ apart_by view x y different same =
     T_not (eqb (view x) (view y)) different (subst (λ (z : Outcome). T (eqb (view x) (view z))) same (eqb_refl (view x)))
 
 -- The first take gives object 1, where a refusal gives 0.
-refusing : (number : State → Call → ℕ) → Differs (refuses_all number)
+refusing : (refusal : State → Call → Refusal) → Differs (refuses_all refusal)
 unfolding refuses_all after computing
-refusing number =
+refusing refusal =
     record {
       sizes = smallest;
       before = [];
@@ -69,7 +70,7 @@ scanning work =
     }
 
 pub four_are_ruled_out :
-    ((number : State → Call → ℕ) → Differs (refuses_all number)) ×
+    ((refusal : State → Call → Refusal) → Differs (refuses_all refusal)) ×
     ((next : State → Call → State) (work : State → Call → Work) → Differs (answers_working next work)) ×
     ((answer : State → Call → Answer) → Differs (keeps_state answer)) ×
     ((work : State → Call → Work) → Differs (scans_at_once work))

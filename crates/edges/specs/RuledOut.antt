@@ -7,18 +7,20 @@ use Rattle.machine.specs.declared.State.{State}
 use Rattle.machine.specs.declared.Call.{Call}
 use Rattle.machine.specs.declared.Answer.{Answer}
 use Rattle.machine.specs.declared.Answer.TheVariants.{Refused, Begun, Working}
+use Rattle.machine.specs.declared.refusal.Refusal.{Refusal}
 use Rattle.machine.specs.declared.Work.{Work}
 use Rattle.machine.specs.Parts.{hand_of, phase_of}
 use Rattle.entries.specs.Phases.{is_idle}
 use Rattle.machine.specs.Calls.{outcome, retire_of}
 use Rattle.machine.specs.GoOn.{go_on_of}
+use Rattle.machine.specs.Answers.{refusal_number}
 use Rattle.machine.specs.Refusals.{refusal_of}
 use Rattle.machine.specs.Step.{step_of}
 use Rattle.edges.specs.Runs.{sizes, call, Machine, started, after}
 
--- "a machine that refuses all", by whatever numbers
-unfoldable pub refuses_all : (State → Call → ℕ) → Machine
-refuses_all number s c = outcome s (Refused (number s c))
+-- "a machine that refuses all", for whatever reasons
+unfoldable pub refuses_all : (State → Call → Refusal) → Machine
+refuses_all refusal s c = outcome s (Refused (refusal s c))
 
 -- "one that answers 3 always", to whatever state it goes and whatever it says that it did
 unfoldable pub answers_working : (State → Call → State) → (State → Call → Work) → Machine
@@ -38,7 +40,7 @@ whole_scan (suc most) s t = cond (is_idle (phase_of s t)) s (whole_scan most (go
 -- to free.
 unfoldable pub scans_at_once : (State → Call → Work) → Machine
 scans_at_once work s c =
-    let refusal = refusal_of s c in
+    let refusal = refusal_number (refusal_of s c) in
     cond (eqb c.operation 5 && eqb refusal 0)
     (outcome (whole_scan 97 (retire_of s c.thread).state c.thread) (Begun (hand_of s c.thread)))
     (cond (eqb c.operation 7 && eqb refusal 27) (outcome s (Working (work s c))) (step_of s c))

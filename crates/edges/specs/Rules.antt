@@ -1,15 +1,14 @@
 -- The machine with one rule changed: for some calls it does something else, and for all others what document 01 and requests 2 and 7 say.
-use Rattle.std.specs.Prelude.{ℕ, ◌≡◌, Bool, true, false, cond, ◌&&◌, eqb}
+use Rattle.std.specs.Prelude.{ℕ, ◌≡◌, refl, Bool, true, false, cond, ◌&&◌, eqb, Option, Some, None}
 use Rattle.machine.specs.declared.State.{State}
 use Rattle.machine.specs.declared.Call.{Call}
 use Rattle.machine.specs.declared.Outcome.{Outcome}
-use Rattle.machine.specs.declared.Answer.TheVariants.{Refused}
+use Rattle.machine.specs.declared.refusal.Refusal.{Refusal}
 use Rattle.entries.specs.declared.Phase.{Phase}
 use Rattle.entries.specs.declared.Phase.TheVariants.{Idle, Loaded, Sweeping, Published, Draining, Look, Swap, SweepLook, SweepSwap}
 use Rattle.machine.specs.Parts.{phase_of}
-use Rattle.machine.specs.Calls.{outcome}
 use Rattle.machine.specs.Refusals.{refusal_of}
-use Rattle.machine.specs.Step.{done_of, step_of}
+use Rattle.machine.specs.Step.{done_of, refused_or, step_of}
 use Rattle.edges.specs.Runs.{Machine}
 
 -- which accepted calls the rule is for, and what they do instead
@@ -21,12 +20,16 @@ unfoldable pub done_by : Change → State → Call → Outcome
 done_by change s c = cond (change.is_for s c) (change.does s c) (done_of s c)
 
 unfoldable pub machine_of : Change → Machine
-machine_of change s c = cond (eqb (refusal_of s c) 0) (done_by change s c) (outcome s (Refused (refusal_of s c)))
+machine_of change s c = refused_or (done_by change) s c (refusal_of s c)
 
 -- A changed machine differs from the machine in the calls that the changed rule is for, and in no other.
 pub one_rule_only : (change : Change) (s : State) (c : Call) → change.is_for s c ≡ false → machine_of change s c ≡ step_of s c
-unfolding machine_of done_by step_of
-one_rule_only change s c other = rw other
+unfolding machine_of done_by step_of refused_or
+one_rule_only change s c other = by_table (refusal_of s c)
+  where
+    by_table : (given : Option Refusal) → refused_or (done_by change) s c given ≡ refused_or done_of s c given
+    by_table None = rw other
+    by_table (Some refusal) = refl
 
 -- no rule changed
 abbrev pub base : Change

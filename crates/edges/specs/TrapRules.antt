@@ -5,6 +5,7 @@ use Rattle.machine.specs.declared.Call.{Call}
 use Rattle.entries.specs.declared.Phase.TheVariants.{Idle, Draining, Look}
 use Rattle.machine.specs.declared.Outcome.{Outcome}
 use Rattle.machine.specs.declared.Answer.TheVariants.{Refused, Begun, Working, Protected, Nothing, Finished, Left, Freed}
+use Rattle.machine.specs.declared.refusal.Refusal.TheVariants.{NoneFree}
 use Rattle.machine.specs.declared.Work.TheVariants.{NoMatch, Match, Displacement}
 use Rattle.entries.specs.Sizes.{positions}
 use Rattle.machine.specs.Parts.{slot_at, hand_of, phase_of, position_of, free_at, tag_of, with_thread, with_slot, with_pool, become}
@@ -117,7 +118,7 @@ parked s t =
 unfoldable pub take_and_park : State → Call → Outcome
 take_and_park s c =
     cond (eqb (next_of s.pool) s.sizes.objects)
-    (outcome s (Refused 30))
+    (outcome s (Refused NoneFree))
     (take_of (parked s c.thread) c.thread c.tag)
 
 abbrev pub parks_the_last : Change

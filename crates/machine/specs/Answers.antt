@@ -1,5 +1,5 @@
 -- "Where an answer is an enum, a definition gives this paper's number and values for every one of its cases."
-use Rattle.std.specs.Prelude.{ℕ, Result, Ok, Err}
+use Rattle.std.specs.Prelude.{ℕ, Option, Some, None, Result, Ok, Err}
 use Rattle.machine.specs.declared.Answer.{Answer}
 use Rattle.machine.specs.declared.Answer.TheVariants.{Refused, Taken, Begun, Working, Protected, Nothing, Swapped, Moved, Tag, Finished, Left, Freed}
 use Rattle.machine.specs.declared.Work.{Work}
@@ -62,3 +62,8 @@ numbers_of (Freed object) = numbers 11 object 0
 unfoldable pub verdict_number : Result (Unit {0}) Refusal → ℕ
 verdict_number (Ok done) = 0
 verdict_number (Err refusal) = number_of refusal
+
+-- 0 where the table of refusals gives none
+unfoldable pub refusal_number : Option Refusal → ℕ
+refusal_number None = 0
+refusal_number (Some refusal) = number_of refusal

@@ -11,9 +11,9 @@ use Rattle.machine.specs.Soundness.{shaped, places_holding, sound}
 use Rattle.machine.specs.Fresh.{fresh_of, blank, start_of}
 use Rattle.machine.specs.Calls.{take_of, protect_of, expected, swap_of, read_of, retire_of, clear_of}
 use Rattle.machine.specs.GoOn.{publish_of, confirm_of, nothing_found, empty_of, sweep_of, drain_of, look_of, hand_over_of, go_on_from, go_on_of}
-use Rattle.machine.specs.Answers.{work_of, number_of, numbers_of, verdict_number}
+use Rattle.machine.specs.Answers.{work_of, number_of, numbers_of, verdict_number, refusal_number}
 use Rattle.machine.specs.Refusals.{uses_slot, uses_link, uses_tag, unused_not_zero, without_slot, reads_slot, state_rows, field_rows, thread_rows, object_rows, call_rows, refusals, refusal_of}
-use Rattle.machine.specs.Step.{done_of, refused_or_done, step_of}
+use Rattle.machine.specs.Step.{done_of, refused_or, step_of}
 use Rattle.machine.specs.Count.{five_places, count_of}
 
 unfoldable pub pools_compute : Unit {0}
@@ -27,11 +27,11 @@ states_compute = tt
 
 -- a step and its answer
 unfoldable pub steps_compute : Unit {0}
-unfolding take_of protect_of expected swap_of read_of retire_of clear_of publish_of confirm_of nothing_found empty_of sweep_of drain_of look_of hand_over_of go_on_from go_on_of done_of refused_or_done step_of work_of number_of numbers_of
+unfolding take_of protect_of expected swap_of read_of retire_of clear_of publish_of confirm_of nothing_found empty_of sweep_of drain_of look_of hand_over_of go_on_from go_on_of done_of refused_or step_of work_of number_of numbers_of
 steps_compute = tt
 
 unfoldable pub refusals_compute : Unit {0}
-unfolding first_of uses_slot uses_link uses_tag unused_not_zero without_slot reads_slot state_rows field_rows thread_rows object_rows call_rows refusals refusal_of
+unfolding first_of uses_slot uses_link uses_tag unused_not_zero without_slot reads_slot state_rows field_rows thread_rows object_rows call_rows refusals refusal_of refusal_number
 refusals_compute = tt
 
 unfoldable pub machine_computes : Unit {0}

@@ -6,6 +6,7 @@ pub mod Fresh
 pub mod Calls
 pub mod GoOn
 pub mod Answers
+pub mod Told
 pub mod Operations
 pub mod Refusals
 pub mod Accepted

@@ -21,9 +21,9 @@ done_of s c =
     (go_on_of s c.thread))))))
 
 -- "Refusals of a call return a = b = 0 and the same state."
-unfoldable pub refused_or_done : State → Call → Option Refusal → Outcome
-refused_or_done s c None = done_of s c
-refused_or_done s c (Some refusal) = outcome s (Refused refusal)
+unfoldable pub refused_or : (State → Call → Outcome) → State → Call → Option Refusal → Outcome
+refused_or done s c None = done s c
+refused_or done s c (Some refusal) = outcome s (Refused refusal)
 
 unfoldable pub step_of : State → Call → Outcome
-step_of s c = refused_or_done s c (refusal_of s c)
+step_of s c = refused_or done_of s c (refusal_of s c)

@@ -31,7 +31,7 @@ impl State {
         }
     }
 
-    #[tactic(auto, unfolding(crate::specs::Step::step_of, crate::specs::Step::refused_or_done))]
+    #[tactic(auto, unfolding(crate::specs::Step::step_of, crate::specs::Step::refused_or))]
     // "Each call hands the next state back."
     pub fn step(self, call: Call) -> Outcome
         ensures { result ≡ step_of self call }

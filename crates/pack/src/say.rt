@@ -1,7 +1,6 @@
 // Says in words what is wrong with a line.
-use std::fmt;
-
 use script::{Fault, Place, Why, Wrong};
+use std::fmt;
 
 fn name(place: Place) -> &'static str {
     match place {
@@ -45,7 +44,11 @@ impl fmt::Display for Quoted<'_> {
         };
         f.write_char('\'')?;
         for &b in word.iter().take(40) {
-            f.write_char(if b.is_ascii_graphic() { char::from(b) } else { '?' })?;
+            f.write_char(if b.is_ascii_graphic() {
+                char::from(b)
+            } else {
+                '?'
+            })?;
         }
         f.write_char('\'')
     }
@@ -68,16 +71,29 @@ impl fmt::Display for Told<'_> {
             (Why::Missing, Place::Operation) => write!(f, "{} is missing; {STEP}", name(place)),
             (Why::Missing, _) => write!(f, "{} is missing; {SIZES}", name(place)),
             (Why::NotNumber, _) => {
-                write!(f, "{quoted} is not a number; {} is {}", name(place), range(place))
+                write!(
+                    f,
+                    "{quoted} is not a number; {} is {}",
+                    name(place),
+                    range(place)
+                )
             }
             (Why::TooLarge, _) => {
-                write!(f, "{quoted} is too large; {} is {}", name(place), range(place))
+                write!(
+                    f,
+                    "{quoted} is too large; {} is {}",
+                    name(place),
+                    range(place)
+                )
             }
             (Why::NotOperation, _) => write!(
                 f,
                 "{quoted} is not an operation; write take, protect, swap, read, retire, clear or go"
             ),
-            (Why::TooMany, Place::AfterSizes) => write!(f, "{quoted} is one word too many; {SIZES}"),
+            (Why::TooMany, Place::AfterSizes) => write!(
+                f,
+                "{quoted} is one word too many; {SIZES}"
+            ),
             (Why::TooMany, _) => write!(f, "{quoted} is one word too many; {STEP}"),
             (Why::NoSizes, _) => write!(
                 f,

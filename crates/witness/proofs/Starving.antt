@@ -4,7 +4,9 @@ use Rattle.std.proofs.Common.{arith, sym, ap, ◌∙◌, eqb-true}
 use Rattle.machine.specs.declared.Outcome.{Outcome}
 use Rattle.machine.specs.declared.Answer.{Answer}
 use Rattle.machine.specs.declared.Answer.TheVariants.{Refused, Taken, Begun, Working, Protected, Nothing, Swapped, Moved, Tag, Finished, Left, Freed}
-use Rattle.machine.specs.Answers.{numbers_of}
+use Rattle.machine.specs.declared.refusal.Refusal.TheVariants.{NoneFree}
+use Rattle.machine.specs.Answers.{number_of, numbers_of}
+use Rattle.machine.specs.Told.{one_number}
 use Rattle.machine.specs.Computing.{machine_computes}
 use Rattle.entries.specs.Sizes.{in_range}
 use Rattle.basics.specs.Tests.{and_l, and_r}
@@ -27,9 +29,9 @@ unfolding machine_computes unchecked each starving state_by
 most = refl
 
 -- only a refusal has a number above 11
-refused : (answer : Answer) → (numbers_of answer).number ≡ 30 → answer ≡ Refused 30
-unfolding numbers_of
-refused (Refused number) e = ap Refused e
+refused : (answer : Answer) → (numbers_of answer).number ≡ number_of NoneFree → answer ≡ Refused NoneFree
+unfolding numbers_of number_of
+refused (Refused refusal) e = ap Refused (one_number refusal NoneFree e)
 refused (Taken object) e = absurd (omega arith)
 refused (Begun object) e = absurd (omega arith)
 refused (Working work) e = absurd (omega arith)
@@ -44,6 +46,7 @@ refused (Freed object) e = absurd (omega arith)
 
 -- and so does the machine itself
 itself : (t h l : ℕ) → starves t h l ≡ true → Starves t h l
+unfolding number_of
 itself t h l e =
     let z = sizes_for t h l in
     let good = and_l (in_range z) _ e in

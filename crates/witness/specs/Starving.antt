@@ -5,6 +5,7 @@ use Rattle.entries.specs.declared.Sizes.{Sizes}
 use Rattle.machine.specs.declared.Call.{Call}
 use Rattle.machine.specs.declared.Answer.{Answer}
 use Rattle.machine.specs.declared.Answer.TheVariants.{Refused}
+use Rattle.machine.specs.declared.refusal.Refusal.TheVariants.{NoneFree}
 use Rattle.machine.specs.Fresh.{fresh_of}
 use Rattle.machine.specs.Answers.{numbers_of}
 use Rattle.machine.specs.Step.{step_of}
@@ -47,7 +48,7 @@ take = call 0 1 0 0 0
 abbrev pub Starves : ℕ → ℕ → ℕ → Type 0
 Starves t h l =
     let z = sizes t h l (l + 2 * t + t * h - 2) in
-    (in_range z ≡ true) × ((step_of (state z (starving t h l)) take).answer ≡ Refused 30)
+    (in_range z ≡ true) × ((step_of (state z (starving t h l)) take).answer ≡ Refused NoneFree)
 
 pub record NotEnough : Type 0 where
   pub one_link : (t h : ℕ) → 1 ≤ t → t ≤ 8 → 1 ≤ h → h ≤ 4 → Starves t h 1

@@ -1,29 +1,25 @@
 -- The machine with the first line of its table, 19, left out. It computes far sooner, since no step looks through all objects, and from a
 -- sound state it is the same machine, because 19 never applies there. So a run of it from a fresh machine is a run of the machine. Nothing here
 -- has to be believed.
-use Rattle.std.specs.Prelude.{◌≡◌, refl, true, cond, List, [], ◌∷◌, eqb}
+use Rattle.std.specs.Prelude.{◌≡◌, refl, true, List, [], ◌∷◌}
 use Rattle.entries.specs.declared.Sizes.{Sizes}
 use Rattle.machine.specs.declared.State.{State}
 use Rattle.machine.specs.declared.Call.{Call}
-use Rattle.machine.specs.declared.Answer.TheVariants.{Refused}
 use Rattle.basics.specs.Rows.{first_of}
 use Rattle.entries.specs.Sizes.{in_range}
 use Rattle.machine.specs.Soundness.{sound}
 use Rattle.machine.specs.Sound.{from_sound}
 use Rattle.machine.specs.Fresh.{fresh_of}
-use Rattle.machine.specs.Calls.{outcome}
 use Rattle.machine.specs.Refusals.{call_rows}
 use Rattle.machine.specs.Accepted.{else_the_rest}
-use Rattle.machine.specs.Step.{done_of, step_of}
+use Rattle.machine.specs.Step.{done_of, refused_or, step_of}
 use Rattle.laws.proofs.Promise.{fresh_is_sound, step_keeps_sound}
 use Rattle.promise.specs.History.{Machine, history_by, state_by, history, state_after}
 use Rattle.promise.specs.Run.{events, state}
 use Rattle.promise.proofs.Moments.{always_sound}
 
 unfoldable pub unchecked : Machine
-unchecked s c =
-    let refusal = first_of (call_rows s c) in
-    cond (eqb refusal 0) (done_of s c) (outcome s (Refused refusal))
+unchecked s c = refused_or done_of s c (first_of (call_rows s c))
 
 same_step : (s : State) (c : Call) → sound s ≡ true → unchecked s c ≡ step_of s c
 unfolding unchecked step_of

@@ -13,11 +13,12 @@ use Rattle.entries.specs.declared.Thread.{Thread}
 use Rattle.entries.specs.declared.Phase.{Phase}
 use Rattle.basics.specs.Tests.{ands, by_test}
 use Rattle.basics.specs.Rows.{FirstIs}
+use Rattle.machine.specs.declared.refusal.Refusal.{Refusal}
 use Rattle.basics.proofs.Rows.{first_from_lem}
 use Rattle.basics.specs.Counts.{bit, how_many, none_passed}
 use Rattle.entries.specs.Sizes.{within}
 use Rattle.entries.specs.Entries.{thread, idle_thread}
-use Rattle.machine.specs.Answers.{numbers_of}
+use Rattle.machine.specs.Answers.{number_of, numbers_of}
 use Rattle.machine.specs.Parts.{thread_at}
 use Rattle.machine.specs.Sound.{Sound, thread_long}
 use Rattle.machine.specs.Refusals.{refusals}
@@ -40,12 +41,12 @@ its_new_phase s c hand phase h under =
 
 -- what is not accepted is a refusal
 pub record IsRefused (a : Answer) : Type 0 where
-  pub number : ℕ
-  pub is : a ≡ Refused number
+  pub why : Refusal
+  pub is : a ≡ Refused why
 
 refusal : (a : Answer) → within 1 11 (numbers_of a).number ≡ false → IsRefused a
 unfolding numbers_of
-refusal (Refused k) off = record { number = k; is = refl }
+refusal (Refused k) off = record { why = k; is = refl }
 refusal (Taken o) off = absurd (false≢true (sym off))
 refusal (Begun o) off = absurd (false≢true (sym off))
 refusal (Working work) off = absurd (false≢true (sym off))
@@ -59,10 +60,10 @@ refusal (Left o p) off = absurd (false≢true (sym off))
 refusal (Freed o) off = absurd (false≢true (sym off))
 
 -- the other way: what is accepted is none
-pub refused_not : (s : State) (c : Call) {k : ℕ} {A : Type 0} → FirstIs (refusals s c) k → within 1 11 k ≡ true → A
+pub refused_not : (s : State) (c : Call) {k : Refusal} {A : Type 0} → FirstIs (refusals s c) k → within 1 11 (number_of k) ≡ true → A
 refused_not s c {k} first took =
-    let high = first_from_lem (refusals_high s c) first in
-    let most = leb-true k 11 (search (ands, took)) in
+    let high = first_from_lem number_of (refusals_high s c) first in
+    let most = leb-true (number_of k) 11 (search (ands, took)) in
     absurd (omega arith)
 
 module _ (t : ℕ) where
@@ -73,7 +74,7 @@ module _ (t : ℕ) where
       (λ own.
       let no : is_accepted (event_of s c) ≡ false = by_test (is_accepted (event_of s c) ≡ false) (is_accepted (event_of s c)) (λ took. absurd (false≢true (sym (rw (took, own) at off)))) (λ no. no) in
       let r = refusal (step_of s c).answer no in
-      ap (λ (x : State). thread_at x t) (refused_keeps_state s c r.number r.is).0)
+      ap (λ (x : State). thread_at x t) (refused_keeps_state s c r.why r.is).0)
       (λ another. way_keeps_others s c t (λ e. eqb-false _ _ another (sym e)) (way s c))
 
   -- any number of them

@@ -24,7 +24,7 @@ use Rattle.machine.specs.Calls.{outcome, expected, take_of, protect_of, swap_of,
 use Rattle.machine.specs.GoOn.{publish_of, confirm_of, nothing_found, empty_of, sweep_of, drain_of, look_of, hand_over_of, go_on_from, go_on_of}
 use Rattle.machine.specs.Refusals.{uses_slot, uses_link, without_slot, reads_slot, refusal_of}
 use Rattle.machine.specs.Accepted.{Accepted, accepted, by_operation}
-use Rattle.machine.specs.Step.{done_of, refused_or_done, step_of}
+use Rattle.machine.specs.Step.{done_of, refused_or, step_of}
 use Rattle.laws.specs.Ways.{named, phase, Does, by_drain, by_sweep, Drains, NamesProtected, Way, refused, takes, begins, swaps, moves, reads, retires, clears, publishes, protects, finds_nothing, loads_again, finishes, sweeps, drains, meets, passes, frees, leaves, displaces}
 
 -- an outcome that a test chooses
@@ -216,8 +216,8 @@ module _ (s : State) (c : Call) (a : Accepted s c) where
       (λ op. is_done _ (rw op) (go_on_way op))
 
 -- by what the table gives
-by_table : (s : State) (c : Call) (given : Option Refusal) → refusal_of s c ≡ given → Way s c (refused_or_done s c given)
-unfolding refused_or_done refusal_of
+by_table : (s : State) (c : Call) (given : Option Refusal) → refusal_of s c ≡ given → Way s c (refused_or done_of s c given)
+unfolding refused_or refusal_of
 by_table s c None e = done_way s c (accepted s c e)
 by_table s c (Some refusal) e = refused (first_some e)
 

@@ -16,7 +16,7 @@ use Rattle.basics.proofs.Rows.{first_is, none_is, first_from_lem}
 use Rattle.machine.specs.Answers.{number_of, numbers_of}
 use Rattle.machine.specs.Soundness.{sound}
 use Rattle.machine.specs.Refusals.{state_rows, field_rows, thread_rows, object_rows, call_rows, refusals, refusal_of}
-use Rattle.machine.specs.Step.{step_of, refused_or_done, done_of}
+use Rattle.machine.specs.Step.{step_of, refused_or, done_of}
 use Rattle.laws.specs.Promise.{KeepsState}
 use Rattle.laws.specs.Ways.{Way, refused, takes, begins, swaps, moves, reads, retires, clears, publishes, protects, finds_nothing, loads_again, finishes, sweeps, drains, meets, passes, frees, leaves, displaces}
 use Rattle.laws.proofs.Lemmas.Inversion.{way}
@@ -45,7 +45,7 @@ module _ (s : State) (c : Call) where
   refused_way (displaces next d was inside full scans) n e = clash (cc)
 
   gives : (refusal : Refusal) → FirstIs (refusals s c) refusal → (step_of s c).answer ≡ Refused refusal
-  unfolding step_of refused_or_done refusal_of
+  unfolding step_of refused_or refusal_of
   gives refusal first = rw (first_is first)
 
   pub exactly : (refusal : Refusal) → (step_of s c).answer ≡ Refused refusal ↔ FirstIs (refusals s c) refusal
@@ -56,7 +56,7 @@ module _ (s : State) (c : Call) where
   keeps_state_lem refusal e = ((refused_way (way s c) refusal e).0, rw e)
 
   pub otherwise_done : NoneApplies (refusals s c) → step_of s c ≡ done_of s c
-  unfolding step_of refused_or_done refusal_of
+  unfolding step_of refused_or refusal_of
   otherwise_done all = rw (none_is all)
 
   -- of a sound state the table's first line does not apply, and the others have higher numbers

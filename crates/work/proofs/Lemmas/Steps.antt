@@ -18,7 +18,7 @@ use Rattle.entries.specs.Phases.{phase_in_range}
 use Rattle.entries.specs.PhaseFacts.{sweeping_facts, draining_facts}
 use Rattle.machine.specs.Parts.{slot_at, phase_of, position_of, with_slot, become}
 use Rattle.machine.specs.Sound.{Sound, its_phase, its_position}
-use Rattle.machine.specs.Answers.{Numbers, numbers, work_of, numbers_of}
+use Rattle.machine.specs.Answers.{number_of, Numbers, numbers, work_of, numbers_of}
 use Rattle.machine.specs.Accepted.{refusals_high}
 use Rattle.machine.specs.Step.{step_of}
 use Rattle.laws.proofs.Promise.{way}
@@ -81,7 +81,7 @@ module _ (s : State) (c : Call) (h : Sound s) (a b : ℕ) where
   did : {o : Outcome} → Way s c o → numbers_of o.answer ≡ numbers 3 a b → Known o.state
   unfolding work_of numbers_of
   did (refused first) told =
-      let high = first_from_lem (refusals_high s c) first in
+      let high = first_from_lem number_of (refusals_high s c) first in
       let is = ap (λ (r : Numbers). r.number) told in
       absurd (omega arith)
   did (takes d empty next free) told = other told refl
