@@ -28,7 +28,7 @@ pub fn run(input: &[u8], out: &mut [u8]) -> usize
     if out.len() < ROOM {
         return 0;
     }
-    let mut page = Page::new(out);
+    let mut page = Page::new(out, 0);
     put_text(input, &mut page);
     page.place()
 }

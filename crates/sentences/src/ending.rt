@@ -16,6 +16,7 @@ pub(crate) fn end(input: &[u8]) -> Result<State, Stop>
     opened.verdict?;
     let mut now_at = opened.state;
     let mut left = rest(input);
+    // counted by hand: a range of steps would have an end that no run reaches
     let mut steps: u32 = 0;
     while let Some(call) = next(left, steps)? {
         now_at = now_at.step(call).state;

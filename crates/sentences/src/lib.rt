@@ -29,7 +29,7 @@ pub fn tell(input: &[u8], out: &mut [u8]) -> usize
     let Ok(state) = end(input) else {
         return 0;
     };
-    let mut page = Page::new(out);
+    let mut page = Page::new(out, 0);
     put_lines(&mut page, state);
     page.place()
 }

@@ -26,10 +26,6 @@ module _ {x : List ℕ} {p q : Page} (b : ℕ) (a : Wrote p x q) (room : p.at + 
 pub length_after : {x : List ℕ} {p q : Page} → Wrote p x q → p.at + length x ≤ length p.out.now → length q.out.now ≡ length p.out.now
 length_after a room = appending.length_after a.written room
 
--- a bound on the place after the bytes
-pub up_to : {x : List ℕ} {p q : Page} (k : ℕ) → Wrote p x q → length x ≤ k → q.at ≤ p.at + k
-up_to k a h = appending.up_to k a.written h
-
 module _ {room : ℕ} {bytes : List ℕ} {p : Page} where
   -- where there is room, the bytes are put
   pub fitted : {q : Page} → p.at + room ≤ length p.out.now → PutOn room bytes p q → Wrote p bytes q

@@ -9,13 +9,13 @@ pub struct Page<'a> {
 }
 
 impl<'a> Page<'a> {
-    // The place is the buffer's front.
-    pub fn new(out: &'a mut [u8]) -> Page<'a>
+    // The buffer from this place on, which may be past its end.
+    pub fn new(out: &'a mut [u8], at: usize) -> Page<'a>
         ensures same { result.out.ghost_name ≡ out.entry.ghost_name }
         ensures bytes { result.out.now ≡ out.old }
-        ensures place { result.at ≡ 0 }
+        ensures place { result.at ≡ at }
     {
-        Page { out, at: 0 }
+        Page { out, at }
     }
 
     pub fn place(&self) -> usize
