@@ -1,6 +1,7 @@
 -- A test of each number under n, as a loop that goes up makes it: what it knows as it goes, and what one failure decides.
-use Rattle.std.specs.Prelude.{◌≡◌, refl, Bool, true, false, ◌&&◌, ◌||◌, List, [], ◌∷◌, get_or, ℕ, zero, suc, ◌+◌, ◌≤◌, ◌<◌, ltb}
-use Rattle.std.proofs.Common.{sym, ap, ap₂, ◌∙◌, ⊎_elim, not-suc-le-zero, le_of_suc-le-suc, eq-or-lt_of_le, add-one, arith, ltb-false, le-ltb}
+use Rattle.std.specs.Prelude.{◌≡◌, refl, Bool, true, false, cond, ◌&&◌, ◌||◌, List, [], ◌∷◌, length, take, drop, get_or, fold, ℕ, zero, suc, ◌+◌, ◌≤◌, ◌<◌, ltb}
+use Rattle.std.specs.List.{list_all, enumerate_from}
+use Rattle.std.proofs.Common.{sym, ap, ap₂, ◌∙◌, ⊎_elim, not-suc-le-zero, le_of_suc-le-suc, eq-or-lt_of_le, add-one, arith, ltb-false, le-ltb, lt-ltb}
 use Rattle.std.proofs.Math.Path.{fun_ext}
 use Rattle.std.proofs.Math.Bool.{and-false, and-true, and_assoc}
 use Rattle.basics.specs.Tests.{both}
@@ -120,3 +121,56 @@ under_walked test d k (suc n) (x ∷ xs) =
 pub under_list : {A : Type 0} (test : ℕ → A → Bool) (d : A) (n : ℕ) (xs : List A) → all_under n (λ i. test i (get_or xs i d)) ≡ walked test d 0 n xs
 under_list test d n xs =
     ap (all_under n) (fun_ext (λ i. ap (λ (j : ℕ). test j (get_or xs i d)) (omega arith))) ∙ under_walked test d 0 n xs
+
+-- What std's methods over a list say, as tests of each number under n.
+
+-- a fold over the elements with their numbers
+numbered_folded : {A : Type 0} (test : ℕ → A → Bool) (d : A) (k : ℕ) (b : Bool) (xs : List A)
+    → fold (λ good p. good && test p.0 p.1) b (enumerate_from k xs) ≡ (b && walked test d k (length xs) xs)
+unfolding walked
+numbered_folded test d k b [] = sym (and-true b)
+numbered_folded test d k b (x ∷ xs) =
+    rw add-one (numbered_folded test d (suc k) (b && test k x) xs) ∙ and_assoc b (test k x) (walked test d (suc k) (length xs) xs)
+
+pub under_folded : {A : Type 0} (test : ℕ → A → Bool) (d : A) (n : ℕ) (xs : List A) → length xs ≡ n
+    → fold (λ good p. good && test p.0 p.1) true (enumerate_from 0 xs) ≡ all_under n (λ i. test i (get_or xs i d))
+under_folded test d n xs long = rw (← long) (numbered_folded test d 0 true xs ∙ sym (under_list test d (length xs) xs))
+
+-- within m one test and beyond it another: the first m elements, and the others
+module _ {A : Type 0} (within beyond : A → Bool) (d : A) (m : ℕ) where
+  abbrev either_side : ℕ → A → Bool
+  either_side i x = cond (ltb i m) (within x) (beyond x)
+
+  past : (k : ℕ) (xs : List A) → m ≤ k → walked either_side d k (length xs) xs ≡ list_all beyond xs
+  unfolding walked
+  past k [] from = refl
+  past k (x ∷ xs) from = rw (le-ltb k m from, past (suc k) xs (omega arith))
+
+  sides : (j k : ℕ) (xs : List A) → j + k ≡ m → walked either_side d k (length xs) xs ≡ (list_all within (take j xs) && list_all beyond (drop j xs))
+  unfolding walked
+  sides zero k xs e = past k xs (omega arith)
+  sides (suc j) k [] e = refl
+  sides (suc j) k (x ∷ xs) e =
+      let inside : k < m = omega arith in
+      rw (lt-ltb k m inside, sides j (suc k) xs (omega arith))
+      (sym (and_assoc (within x) (list_all within (take j xs)) (list_all beyond (drop j xs))))
+
+  pub under_sides : (n : ℕ) (xs : List A) → length xs ≡ n
+      → (list_all within (take m xs) && list_all beyond (drop m xs)) ≡ all_under n (λ i. cond (ltb i m) (within (get_or xs i d)) (beyond (get_or xs i d)))
+  under_sides n xs long = rw (← long) (sym (sides m 0 xs (omega arith)) ∙ sym (under_list either_side d (length xs) xs))
+
+all_pass : {A : Type 0} (xs : List A) → list_all (λ x. true) xs ≡ true
+all_pass [] = refl
+all_pass (x ∷ xs) = all_pass xs
+
+or_cond : (b r : Bool) → cond b true r ≡ (b || r)
+or_cond true r = refl
+or_cond false r = refl
+
+-- nothing is asked of the first m
+pub beyond_listed : {A : Type 0} (test : A → Bool) (d : A) (m n : ℕ) (xs : List A) → length xs ≡ n
+    → list_all test (drop m xs) ≡ all_under n (λ i. ltb i m || test (get_or xs i d))
+beyond_listed test d m n xs long =
+    ap (λ (b : Bool). b && list_all test (drop m xs)) (sym (all_pass (take m xs))) ∙
+    under_sides (λ x. true) test d m n xs long ∙
+    under_same n (λ i. cond (ltb i m) true (test (get_or xs i d))) (λ i. ltb i m || test (get_or xs i d)) (λ i less. or_cond (ltb i m) (test (get_or xs i d)))

@@ -1,25 +1,25 @@
 // States made from reachable ones by changing a few fields: sound or not, by both checks, and one call on each.
-use crate::draw::Plan;
-use crate::totals::Totals;
-use crate::{dice, draw};
-use entries::{Phase, Sizes, Slot, Thread};
+use crate::dice::Seed;
+use crate::draw;
+use crate::plan::Plan;
+use crate::totals::{Compared, Totals};
+use entries::{Phase, Sizes, Thread};
 use machine::State;
 
 // In range, and one in eight times one past it.
-fn near(seed: usize, k: usize, size: u8) -> u8 {
-    if dice::pick(seed, k ^ 64, 8) == 0 {
+fn near(seed: Seed, k: usize, size: u8) -> u8 {
+    if seed.once_in(k ^ 64, 8) {
         return size;
     }
-    plain::byte(dice::pick(seed, k, usize::from(size)))
+    plain::byte(seed.pick(k, usize::from(size)))
 }
 
 // What carries an object: of the positions, T × H and one past it too.
-fn carrying(seed: usize, z: Sizes, object: u8) -> Phase {
+fn carrying(seed: Seed, z: Sizes, object: u8) -> Phase {
     let slot = near(seed, 11, z.slots);
     let link = near(seed, 12, z.links);
-    let ends = ((positions(z.threads, z.slots)).saturating_add(1)).saturating_add(1);
-    let position = plain::byte(dice::pick(seed, 14, ends));
-    match dice::pick(seed, 16, 4) {
+    let position = plain::byte(seed.pick(14, positions(z) + 2));
+    match seed.pick(16, 4) {
         0 => Phase::Look { object, position },
         1 => Phase::Swap { object, position },
         2 => Phase::SweepLook {
@@ -37,11 +37,11 @@ fn carrying(seed: usize, z: Sizes, object: u8) -> Phase {
     }
 }
 
-fn phase(seed: usize, z: Sizes) -> Phase {
+fn phase(seed: Seed, z: Sizes) -> Phase {
     let slot = near(seed, 11, z.slots);
     let link = near(seed, 12, z.links);
     let object = near(seed, 13, z.objects);
-    match dice::pick(seed, 15, 9) {
+    match seed.pick(15, 9) {
         0 => Phase::Idle,
         1 | 2 => Phase::Loaded { slot, link, object },
         3 | 4 => Phase::Published { slot, link },
@@ -52,234 +52,158 @@ fn phase(seed: usize, z: Sizes) -> Phase {
 }
 
 // Up to one past the size, and now and then anywhere.
-fn index(seed: usize, k: usize, size: usize, most: usize) -> usize {
-    if dice::pick(seed, k ^ 64, 16) == 0 {
-        return dice::pick(seed, k, most);
-    }
-    dice::pick(seed, k, size)
+fn index(seed: Seed, k: usize, size: usize, most: usize) -> usize {
+    let below = if seed.once_in(k ^ 64, 16) { most } else { size };
+    seed.pick(k, below)
 }
 
 // T × H, where H is at most 4.
-fn positions(threads: u8, slots: u8) -> usize {
-    let t = usize::from(threads) % 256;
-    match slots {
-        0 => 0,
-        1 => t,
-        2 => t + t,
-        3 => t + t + t,
-        _ => t + t + t + t,
-    }
+fn positions(z: Sizes) -> usize {
+    usize::from(z.threads) * usize::from(z.slots.min(4))
 }
 
-fn change_link(seed: usize, mut s: State) -> State {
+fn change_link(seed: Seed, s: &mut State) {
     let z = s.sizes;
-    let l = index(seed, 1, usize::from(z.links), 16);
-    let object = dice::pick(seed, 2, 242);
-    let near = dice::pick(seed, 3, usize::from(z.objects));
-    if l < 16 {
-        s.links[l] = plain::byte(if dice::pick(seed, 4, 4) == 0 {
-            object
+    if let Some(link) = s.links.get_mut(index(seed, 1, usize::from(z.links), 16)) {
+        *link = plain::byte(if seed.once_in(4, 4) {
+            seed.pick(2, 242)
         } else {
-            near
+            seed.pick(3, usize::from(z.objects))
         });
     }
-    s
 }
 
-fn change_thread(seed: usize, mut s: State) -> State {
+fn change_thread(seed: Seed, s: &mut State) {
     let z = s.sizes;
-    let t = index(seed, 1, usize::from(z.threads), 8);
-    let n = usize::from(z.objects);
-    if t < 8 {
-        let old = s.threads[t];
-        let was = old.phase;
-        let next = phase(seed, z);
-        let only_hand = dice::pick(seed, 5, 4) == 0;
-        let hand = if only_hand {
-            plain::byte(dice::pick(seed, 6, n))
+    if let Some(thread) = s.threads.get_mut(index(seed, 1, usize::from(z.threads), 8)) {
+        if seed.once_in(5, 4) {
+            thread.hand = plain::byte(seed.pick(6, usize::from(z.objects)));
         } else {
-            old.hand
-        };
-        if only_hand {
-            s.threads[t] = Thread { hand, phase: was };
-        } else {
-            s.threads[t] = Thread { hand, phase: next };
+            thread.phase = phase(seed, z);
         }
     }
-    s
 }
 
-fn change_slot(seed: usize, mut s: State) -> State {
+fn change_slot(seed: Seed, s: &mut State) {
     let z = s.sizes;
-    let p = index(seed, 1, positions(z.threads, z.slots), 32);
-    let n = usize::from(z.objects);
-    let k = dice::pick(seed, 2, 8);
-    if p < 32 {
-        let old = s.slots[p];
-        let hazard = plain::byte(dice::pick(seed, 3, 242) % 242);
-        let close = plain::byte(dice::pick(seed, 4, n));
-        s.slots[p] = Slot {
-            hazard: if k < 3 {
-                close
-            } else if k == 3 {
-                hazard
-            } else {
-                old.hazard
-            },
-            mark: if k == 4 || k == 5 {
-                !old.mark
-            } else {
-                old.mark
-            },
-            handover: if k == 6 { close } else { old.handover },
-        };
+    let close = usize::from(z.objects);
+    if let Some(slot) = s.slots.get_mut(index(seed, 1, positions(z), 32)) {
+        match seed.pick(2, 8) {
+            0..=2 => slot.hazard = plain::byte(seed.pick(4, close)),
+            3 => slot.hazard = plain::byte(seed.pick(3, 242)),
+            4 | 5 => slot.mark = !slot.mark,
+            6 => slot.handover = plain::byte(seed.pick(4, close)),
+            _ => {}
+        }
     }
-    s
 }
 
-fn change_object(seed: usize, mut s: State) -> State {
-    let z = s.sizes;
-    let i = index(seed, 1, usize::from(z.objects), 240);
-    if i < 240 {
-        if dice::pick(seed, 2, 3) == 0 {
+fn change_object(seed: Seed, s: &mut State) {
+    let i = index(seed, 1, usize::from(s.sizes.objects), 240);
+    if let Some(tag) = s.tags.get_mut(i) {
+        if seed.once_in(2, 3) {
             let object = plain::byte(i + 1);
-            let pool = s.pool;
-            let other = if pool.is_free(object) {
-                pool.take_out(object)
+            s.pool = if s.pool.is_free(object) {
+                s.pool.take_out(object)
             } else {
-                pool.put_back(object)
+                s.pool.put_back(object)
             };
-            s.pool = other;
         } else {
-            s.tags[i] = plain::word(dice::mix(seed, 3));
+            *tag = seed.mix(3).0;
         }
     }
-    s
+}
+
+// An object, where it is one to 240 and free.
+fn some_free(seed: Seed, s: &State) -> Option<u8> {
+    let i = seed.pick(1, usize::from(s.sizes.objects));
+    let object = plain::byte(i.saturating_add(1));
+    (i < 240 && s.pool.is_free(object)).then_some(object)
 }
 
 // One free object goes to an empty link: a sound state gives a sound one.
-fn move_free(seed: usize, mut s: State) -> State {
-    let z = s.sizes;
-    let i = dice::pick(seed, 1, usize::from(z.objects));
-    let l = dice::pick(seed, 2, usize::from(z.links));
-    if i < 240 && l < 16 {
-        let object = plain::byte(i + 1);
-        let pool = s.pool;
-        if pool.is_free(object) && s.links[l] == 0 {
-            let taken = pool.take_out(object);
-            s.pool = taken;
-            s.links[l] = object;
-        }
+fn move_free(seed: Seed, s: &mut State) {
+    let l = seed.pick(2, usize::from(s.sizes.links));
+    if let Some(object) = some_free(seed, s)
+        && let Some(link) = s.links.get_mut(l)
+        && *link == 0
+    {
+        *link = object;
+        s.pool = s.pool.take_out(object);
     }
-    s
 }
 
 // One free object goes to an idle thread that then carries it: a sound state gives a sound one, unless a number of the phase is
 // out of range.
-fn carry_free(seed: usize, mut s: State) -> State {
+fn carry_free(seed: Seed, s: &mut State) {
     let z = s.sizes;
-    let i = dice::pick(seed, 1, usize::from(z.objects));
-    let t = dice::pick(seed, 2, usize::from(z.threads));
-    if i < 240 {
-        if t < 8 {
-            let object = plain::byte(i + 1);
-            let pool = s.pool;
-            let old = s.threads[t];
-            let was = old.phase;
-            if pool.is_free(object) && was.is_idle() {
-                let taken = pool.take_out(object);
-                s.pool = taken;
-                s.threads[t] = Thread {
-                    hand: old.hand,
-                    phase: carrying(seed, z, object),
-                };
-            }
-        }
+    let t = seed.pick(2, usize::from(z.threads));
+    if let Some(object) = some_free(seed, s)
+        && let Some(thread) = s.threads.get_mut(t)
+        && thread.phase == Phase::Idle
+    {
+        thread.phase = carrying(seed, z, object);
+        s.pool = s.pool.take_out(object);
     }
-    s
 }
 
 // What a link holds goes to a handover that is empty: a sound state gives a sound one.
-fn move_link(seed: usize, mut s: State) -> State {
+fn move_link(seed: Seed, s: &mut State) {
     let z = s.sizes;
-    let l = dice::pick(seed, 1, usize::from(z.links));
-    let p = dice::pick(seed, 2, positions(z.threads, z.slots));
-    if l < 16 {
-        if p < 32 {
-            let old = s.slots[p];
-            let object = s.links[l];
-            if old.handover == 0 {
-                s.links[l] = 0;
-                s.slots[p] = Slot {
-                    hazard: old.hazard,
-                    mark: old.mark,
-                    handover: object,
-                };
-            }
-        }
+    let l = seed.pick(1, usize::from(z.links));
+    let p = seed.pick(2, positions(z));
+    if let Some(link) = s.links.get_mut(l)
+        && let Some(slot) = s.slots.get_mut(p)
+        && slot.handover == 0
+    {
+        slot.handover = *link;
+        *link = 0;
     }
-    s
 }
 
-fn change_size(seed: usize, mut s: State) -> State {
-    let mut z = s.sizes;
-    match dice::pick(seed, 1, 5) {
-        0 => {
-            z.threads = plain::byte(dice::pick(seed, 2, 10));
-        }
-        1 => {
-            z.slots = plain::byte(dice::pick(seed, 2, 6));
-        }
-        2 => {
-            z.links = plain::byte(dice::pick(seed, 2, 18));
-        }
-        3 => {
-            z.objects = plain::byte(dice::pick(seed, 2, 256));
-        }
+fn change_size(seed: Seed, s: &mut State) {
+    match seed.pick(1, 5) {
+        0 => s.sizes.threads = plain::byte(seed.pick(2, 10)),
+        1 => s.sizes.slots = plain::byte(seed.pick(2, 6)),
+        2 => s.sizes.links = plain::byte(seed.pick(2, 18)),
+        3 => s.sizes.objects = plain::byte(seed.pick(2, 256)),
         _ => {
-            z.threads = 0;
-            z.slots = 0;
-            z.links = 0;
-            z.objects = 0;
+            s.sizes = Sizes {
+                threads: 0,
+                slots: 0,
+                links: 0,
+                objects: 0,
+            };
         }
     }
-    s.sizes = z;
-    s
 }
 
-fn change(seed: usize, s: State) -> State {
-    match dice::pick(seed, 0, 16) {
+fn change(seed: Seed, s: &mut State) {
+    match seed.pick(0, 16) {
         0 => change_link(seed, s),
         1 | 2 => change_thread(seed, s),
-        3 | 4 | 5 => change_slot(seed, s),
+        3..=5 => change_slot(seed, s),
         6 | 7 => change_object(seed, s),
         8 => change_size(seed, s),
-        9 | 10 | 11 => move_free(seed, s),
+        9..=11 => move_free(seed, s),
         12 | 13 => carry_free(seed, s),
         _ => move_link(seed, s),
     }
 }
 
-// One to three changes.
-fn changed(seed: usize, s: State) -> State {
-    let once = change(dice::mix(seed, 21), s);
-    let many = dice::pick(seed, 20, 3);
-    if many == 0 {
-        return once;
+// Both checks on a state after one to three changes, and then a call and a count.
+pub fn judged(plan: Plan, at: usize, reached: State, totals: &mut Totals) {
+    let seed = plan.seed.mix(at ^ 512);
+    let mut s = reached;
+    for k in 21..=21 + seed.pick(20, 3) {
+        change(seed.mix(k), &mut s);
     }
-    let twice = change(dice::mix(seed, 22), once);
-    if many == 1 {
-        return twice;
-    }
-    change(dice::mix(seed, 23), twice)
-}
-
-// Both checks on a changed state, and then a call and a count.
-pub fn judged(before: Totals, plan: Plan, index: usize, reached: State) -> Totals {
-    let s = changed(dice::mix(plan.seed, index ^ 512), reached);
     let w = twin::of(&compare::raw(s));
-    let order = draw::order(plan, index ^ 256, w);
-    let b = compare::called(s, order);
-    let seen = before.soundness(b.sound, b.checks).answer(b.said);
-    seen.call(b.answers).state(b.states).count(b.counts)
+    let order = draw::order(plan, at ^ 256, &w);
+    let both = compare::called(s, order);
+    totals.soundness(both.sound, both.checks);
+    totals.answer(both.said);
+    totals.compare(Compared::Answer, both.answers);
+    totals.compare(Compared::State, both.states);
+    totals.compare(Compared::Count, both.counts);
 }

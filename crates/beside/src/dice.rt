@@ -1,22 +1,29 @@
 // Numbers that look random and are the same in every run: each is worked out from a seed and an index, with no state kept.
+#[derive(Clone, Copy, Debug, PartialEq, Eq)]
+pub struct Seed(pub u32);
 
 // Stirs 32 bits, so that near numbers give far ones.
-fn stir(x: usize) -> usize {
-    let a = x % 4294967296;
-    let b = (a ^ (a >> 16)) % 4294967296;
-    let c = (b * 2246822507) % 4294967296;
-    let d = (c ^ (c >> 13)) % 4294967296;
-    let e = (d * 3266489909) % 4294967296;
-    (e ^ (e >> 16)) % 4294967296
+fn stir(x: u32) -> u32 {
+    let a = (x ^ (x >> 16)).wrapping_mul(2246822507);
+    let b = (a ^ (a >> 13)).wrapping_mul(3266489909);
+    b ^ (b >> 16)
 }
 
-// The number at an index under a seed, below 2 to the 32.
-pub fn mix(seed: usize, index: usize) -> usize {
-    let step = (index % 1048576) * 2654435769;
-    stir(stir(seed) % 4294967296 + step)
-}
+impl Seed {
+    // The number at an index.
+    pub fn mix(self, index: usize) -> Seed {
+        let step = plain::word(index).wrapping_mul(2654435769);
+        Seed(stir(stir(self.0).wrapping_add(step)))
+    }
 
-// The same, below n; 0 where n is 0.
-pub fn pick(seed: usize, index: usize, n: usize) -> usize {
-    if n == 0 { 0 } else { mix(seed, index) % n }
+    // The same, below n; 0 where n is 0.
+    pub fn pick(self, index: usize, n: usize) -> usize {
+        let number = self.mix(index).0 as usize;
+        number.checked_rem(n).unwrap_or(0)
+    }
+
+    // Once in n times.
+    pub fn once_in(self, index: usize, n: usize) -> bool {
+        self.pick(index, n) == 0
+    }
 }

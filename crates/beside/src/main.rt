@@ -5,23 +5,22 @@ mod change;
 mod dice;
 mod draw;
 mod kinds;
+mod plan;
 mod run;
 mod show;
 mod tally;
 mod totals;
 mod traps;
 
+use plan::Plan;
 use std::io;
-
-fn all() -> totals::Totals {
-    let mut sum = totals::none();
-    for n in 0..draw::SCHEDULES {
-        sum = run::schedule(n, sum);
-    }
-    sum
-}
+use totals::Totals;
 
 fn main(rt: HostRuntime) -> io::Result<()> {
-    show::totals(&rt, all())?;
+    let mut totals = Totals::new();
+    for number in 0..plan::SCHEDULES {
+        run::schedule(Plan::of(number), &mut totals);
+    }
+    show::totals(&rt, &totals)?;
     traps::all(&rt)
 }

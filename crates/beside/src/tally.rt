@@ -1,25 +1,19 @@
-// How often each of some numbers below 32 was seen.
+// How often each of some numbers below N was seen.
 #[derive(Clone, Copy)]
-pub struct Tally {
-    pub seen: [u32; 32],
-}
+pub struct Tally<const N: usize>([u32; N]);
 
-pub fn none() -> Tally {
-    Tally { seen: [0; 32] }
-}
-
-impl Tally {
-    pub fn see(mut self, k: usize) -> Tally {
-        if k < 32 {
-            let n = self.seen[k];
-            if n < 1000000000 {
-                self.seen[k] = n + 1;
-            }
-        }
-        self
+impl<const N: usize> Tally<N> {
+    pub fn new() -> Self {
+        Tally([0; N])
     }
 
-    pub fn at(self, k: usize) -> usize {
-        if k < 32 { self.seen[k] as usize } else { 0 }
+    pub fn see(&mut self, k: usize) {
+        if let Some(count) = self.0.get_mut(k) {
+            *count = count.saturating_add(1);
+        }
+    }
+
+    pub fn at(&self, k: usize) -> u32 {
+        self.0.get(k).copied().unwrap_or(0)
     }
 }

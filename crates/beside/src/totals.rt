@@ -1,116 +1,97 @@
 // What was compared, and what was seen.
 use crate::kinds::Kinds;
 use crate::tally::Tally;
-use crate::{kinds, tally};
-use plain::Said;
+use plain::{Said, Task};
+
+// What is compared.
+#[derive(Clone, Copy, Debug, PartialEq, Eq)]
+pub enum Compared {
+    Answer,
+    State,
+    Count,
+    // The store's answer to a call that is listed.
+    Listed,
+    Holding,
+    // Whether a changed state is sound.
+    Changed,
+}
 
 #[derive(Clone, Copy)]
 pub struct Totals {
     // How often each answer and refusal was given, by its number, and each 3 by what it says was done.
-    pub seen: Tally,
-    pub work: Tally,
-    pub kinds: Kinds,
-    pub started: usize,
-    pub calls: usize,
-    pub counts: usize,
-    pub states: usize,
-    pub listed: usize,
-    pub holdings: usize,
-    pub changed: usize,
-    pub sound: usize,
-    pub unsound: usize,
-    pub differences: usize,
+    pub seen: Tally<32>,
+    pub work: Tally<8>,
+    // The kinds of go on: of threads that return to idle, and of those in a sweep or in its scan, which return to Published.
+    pub to_idle: Kinds,
+    pub to_published: Kinds,
+    compared: Tally<6>,
+    pub started: u32,
+    pub sound: u32,
+    pub unsound: u32,
+    pub differences: u32,
 }
 
-pub fn none() -> Totals {
-    Totals {
-        seen: tally::none(),
-        work: tally::none(),
-        kinds: kinds::none(),
-        started: 0,
-        calls: 0,
-        counts: 0,
-        states: 0,
-        listed: 0,
-        holdings: 0,
-        changed: 0,
-        sound: 0,
-        unsound: 0,
-        differences: 0,
-    }
+fn more(count: &mut u32) {
+    *count = count.saturating_add(1);
 }
 
 impl Totals {
-    pub fn see(mut self, number: usize) -> Totals {
-        let seen = self.seen;
-        self.seen = seen.see(number);
-        self
-    }
-
-    pub fn answer(mut self, said: Said) -> Totals {
-        let work = self.work;
-        if said.number == 3 {
-            self.work = work.see(said.a);
+    pub fn new() -> Totals {
+        Totals {
+            seen: Tally::new(),
+            work: Tally::new(),
+            to_idle: Kinds::new(),
+            to_published: Kinds::new(),
+            compared: Tally::new(),
+            started: 0,
+            sound: 0,
+            unsound: 0,
+            differences: 0,
         }
-        self.see(said.number)
     }
 
-    pub fn go_on(mut self, back: bool, said: Said) -> Totals {
-        let kinds = self.kinds;
-        self.kinds = kinds.see(back, said);
-        self
+    pub fn compared(&self, what: Compared) -> u32 {
+        self.compared.at(what as usize)
     }
 
-    pub fn agree(mut self, same: bool) -> Totals {
+    pub fn compare(&mut self, what: Compared, same: bool) {
+        self.compared.see(what as usize);
         if !same {
-            self.differences = self.differences.saturating_add(1);
+            more(&mut self.differences);
         }
-        self
     }
 
-    pub fn start(mut self, good: bool) -> Totals {
-        if good {
-            self.started = self.started.saturating_add(1);
+    // A start, by the number of its refusal.
+    pub fn start(&mut self, refused: Option<usize>) {
+        match refused {
+            None => more(&mut self.started),
+            Some(number) => self.seen.see(number),
         }
-        self
     }
 
-    pub fn call(mut self, same: bool) -> Totals {
-        self.calls = self.calls.saturating_add(1);
-        self.agree(same)
+    pub fn answer(&mut self, said: Said) {
+        self.seen.see(said.number);
+        if said.number == 3 {
+            self.work.see(said.a);
+        }
     }
 
-    pub fn count(mut self, same: bool) -> Totals {
-        self.counts = self.counts.saturating_add(1);
-        self.agree(same)
-    }
-
-    pub fn state(mut self, same: bool) -> Totals {
-        self.states = self.states.saturating_add(1);
-        self.agree(same)
-    }
-
-    // `agrees` is None where the call is not listed.
-    pub fn listing(mut self, agrees: Option<bool>) -> Totals {
-        let Some(same) = agrees else {
-            return self;
-        };
-        self.listed = self.listed.saturating_add(1);
-        self.agree(same)
-    }
-
-    pub fn holding(mut self, same: bool) -> Totals {
-        self.holdings = self.holdings.saturating_add(1);
-        self.agree(same)
-    }
-
-    pub fn soundness(mut self, yes: bool, same: bool) -> Totals {
-        self.changed = self.changed.saturating_add(1);
-        if yes {
-            self.sound = self.sound.saturating_add(1);
+    // The answer to a go on that was accepted, of a thread that was in the middle of this.
+    pub fn go_on(&mut self, before: Task, said: Said) {
+        if before.back {
+            self.to_published.see(said);
         } else {
-            self.unsound = self.unsound.saturating_add(1);
+            self.to_idle.see(said);
         }
-        self.agree(same)
+    }
+
+    // A changed state, and whether both checks say so.
+    pub fn soundness(&mut self, sound: bool, same: bool) {
+        self.compare(Compared::Changed, same);
+        if sound {
+            more(&mut self.sound);
+        } else {
+            more(&mut self.unsound);
+        }
     }
 }

@@ -10,7 +10,9 @@ use plain::Operation;
 
 // Whether both can apply. An operation that is none comes with 22 alone.
 fn meet(due: Line, later: Line, operation: Option<Operation>) -> bool {
-    let known = operation.is_some() || due == Line::NoSuchOperation || later == Line::NoSuchOperation;
+    let known = operation.is_some()
+        || due == Line::NoSuchOperation
+        || later == Line::NoSuchOperation;
     let beyond = due == Line::NoSuchThread && matches!(later, Line::Busy | Line::HandFull);
     due.speaks_of(operation) && later.speaks_of(operation) && known && !beyond
 }

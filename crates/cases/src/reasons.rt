@@ -208,7 +208,11 @@ fn of_phase(z: Setting, doing: Doing, wrong: Wrong, bad: bool) -> Stage {
         slot: last.slot,
         link: last.link,
         object: z.objects,
-        position: if doing.looks() { z.positions() } else { last.position },
+        position: if doing.looks() {
+            z.positions()
+        } else {
+            last.position
+        },
     };
     if bad {
         match wrong {
@@ -220,7 +224,11 @@ fn of_phase(z: Setting, doing: Doing, wrong: Wrong, bad: bool) -> Stage {
         }
     }
     let fresh = Stage::fresh(z);
-    let s = if doing.carries() { fresh.taken(named.object) } else { fresh };
+    let s = if doing.carries() {
+        fresh.taken(named.object)
+    } else {
+        fresh
+    };
     s.thread(last.thread, 0, doing.phase(named))
 }
 
@@ -303,8 +311,7 @@ impl Reason {
         })
     }
 
-    // Under one column the unsound states and under the next their neighbours. A count is that of the settings; the blank state
-    // is there once.
+    // In each of the settings, but the blank state once.
     fn count(self, table: &mut Table<10, 16>, row: usize, column: usize, bad: bool) {
         if matches!(self, Reason::Blank(_)) {
             table.count(row, column, self.is_shown(Setting::of(2, 1), bad));
@@ -314,6 +321,7 @@ impl Reason {
     }
 }
 
+// Of two columns, the first has the unsound states and the second their neighbours.
 pub fn table() -> Table<10, 16> {
     let mut table = Table::new(
         "states seen that are unsound for one reason, each before its sound neighbours
@@ -330,9 +338,10 @@ pub fn table() -> Table<10, 16> {
         [1, 2, 3, 4, 5, 6, 7, 8, 9, 10],
     );
     for (row, reasons) in REASONS.iter().enumerate() {
-        for (column, &reason) in (0..16).step_by(2).zip(reasons.iter()) {
-            reason.count(&mut table, row, column, true);
-            reason.count(&mut table, row, column + 1, false);
+        let columns = (0..16).step_by(2).zip((1..16).step_by(2));
+        for (&reason, (unsound, sound)) in reasons.iter().zip(columns) {
+            reason.count(&mut table, row, unsound, true);
+            reason.count(&mut table, row, sound, false);
         }
     }
     table

@@ -126,9 +126,21 @@ impl Setting {
         Order {
             thread: last.thread,
             operation,
-            slot: if Field::Slot.is_used_by(known) { last.slot } else { 0 },
-            link: if Field::Link.is_used_by(known) { last.link } else { 0 },
-            tag: if Field::Tag.is_used_by(known) { 4294967295 } else { 0 },
+            slot: if Field::Slot.is_used_by(known) {
+                last.slot
+            } else {
+                0
+            },
+            link: if Field::Link.is_used_by(known) {
+                last.link
+            } else {
+                0
+            },
+            tag: if Field::Tag.is_used_by(known) {
+                4294967295
+            } else {
+                0
+            },
         }
     }
 }

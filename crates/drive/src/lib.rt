@@ -3,10 +3,9 @@
 
 mod mixing;
 
-use machine::{State, Verdict};
+use machine::State;
 use mixing::{mixed_answer, mixed_places};
 use records::reading::rest;
-use schedule::Next;
 use schedule::going::next;
 use schedule::opening::open;
 
@@ -16,28 +15,20 @@ fn steps(input: &[u8], state: State) -> u64 {
     let mut sum = 0;
     let mut now_at = state;
     let mut left = input;
-    let mut done: u32 = 0;
-    // no 6,001st call comes
-    while done < 6000 {
-        let found = next(left, done);
-        let Next::Call(call) = found else {
-            break;
+    for done in 0..=6000 {
+        let Ok(found) = next(left, done) else {
+            return sum;
+        };
+        let Some(call) = found else {
+            return mixed_places(sum, now_at.count().places);
         };
         let outcome = now_at.step(call);
-        let answer = outcome.answer;
-        sum = mixed_answer(sum, answer);
+        sum = mixed_answer(sum, outcome.answer);
         now_at = outcome.state;
-        let after = rest(left);
-        left = after;
-        done += 1;
+        left = rest(left);
     }
-    let last = next(left, done);
-    let Next::End = last else {
-        return sum;
-    };
-    let counted = now_at.count();
-    let places = counted.places;
-    mixed_places(sum, places)
+    // not reached: no 6,001st call comes
+    sum
 }
 
 // A sizes record and the steps after it: the checksum of all answers and of the five places at the end. An input that opens no machine
@@ -45,10 +36,8 @@ fn steps(input: &[u8], state: State) -> u64 {
 #[unsafe(no_mangle)]
 pub extern "C" fn drive_schedule(input: &[u8]) -> u64 {
     let opened = open(input);
-    let verdict = opened.verdict;
-    let Verdict::Good = verdict else {
+    let Ok(()) = opened.verdict else {
         return 0;
     };
-    let state = opened.state;
-    steps(rest(input), state)
+    steps(rest(input), opened.state)
 }

@@ -13,11 +13,11 @@ pub fn read_full<R: Read>(input: &mut R, buf: &mut [u8]) -> usize
     ensures bytes { Consumes (R.remaining input.old) (R.remaining input.new) (take result buf.new) }
 {
     let mut done = 0;
+    // no method of the library does this: `read_exact` leaves open what it read where the input ends
     while done < buf.len() {
         match input.read(&mut buf[done..]) {
-            Ok(0) => break,
+            Ok(0) | Err(_) => break,
             Ok(n) => done += n,
-            Err(_) => break,
         }
     }
     done

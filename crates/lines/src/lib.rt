@@ -10,6 +10,7 @@ ghost use Rattle.lines.specs.Lent.{answer_of, buffer_of};
 
 use first::put_text;
 use text::page::Page;
+pub use told::Numbers;
 
 // 240,080 bytes, room for every run: 6,002 lines of at most 40 bytes.
 pub const ROOM: usize = 6002 * 40;
@@ -27,7 +28,7 @@ pub fn run(input: &[u8], out: &mut [u8]) -> usize
     if out.len() < ROOM {
         return 0;
     }
-    let mut page = Page::new(out);
+    let mut page = Page::new(out, 0);
     put_text(input, &mut page);
     page.place()
 }

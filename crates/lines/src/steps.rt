@@ -19,6 +19,7 @@ pub(crate) fn put_steps(input: &[u8], page: &mut Page<'_>, state: State)
 {
     let mut left = input;
     let mut now_at = state;
+    // counted by hand: a range of steps would have an end that no run reaches
     let mut steps: u32 = 0;
     loop {
         // what is no call ends the run: a refusal goes to the stop line, the end of the input to the end line

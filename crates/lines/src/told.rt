@@ -10,11 +10,11 @@ use machine::{Answer, Call, Places, Work};
 use text::page::Page;
 
 // An answer as numbers.
-#[derive(Clone, Copy)]
-pub(crate) struct Numbers {
-    number: u8,
-    a: u32,
-    b: u32,
+#[derive(Clone, Copy, Debug, PartialEq, Eq)]
+pub struct Numbers {
+    pub number: u8,
+    pub a: u32,
+    pub b: u32,
 }
 
 // What a step that is answered 3 did, and the position concerned.
@@ -39,7 +39,7 @@ impl From<Answer> for Numbers {
     #[tactic(auto, unfolding(machine::specs::Answers::numbers_of))]
     fn from(answer: Answer) -> Numbers {
         let (number, a, b) = match answer {
-            Answer::Refused(number) => (number, 0, 0),
+            Answer::Refused(refusal) => (refusal.number(), 0, 0),
             Answer::Taken(object) => (1, u32::from(object), 0),
             Answer::Begun(object) => (2, u32::from(object), 0),
             Answer::Working(work) => {

@@ -10,30 +10,28 @@ use input::read_full;
 use say::Told;
 use script::packing::pack;
 
-// Room for a text of 1,048,576 bytes and one more, by which a longer one is known.
-fn text_room() -> [u8; 1048577]
-    ensures { 1048577 ≡ length result }
-{
-    [0; 1048577]
-}
+// A text has at most 1,048,576 bytes; the room is for one more, by which a longer one is known.
+const TEXT: usize = 1048577;
 
-// Room for 65,536 records: the sizes and 65,535 steps.
-fn record_room() -> [u8; 655360]
-    ensures { 655360 ≡ length result }
+// The sizes and 65,535 steps are 65,536 records.
+const RECORDS: usize = 655360;
+
+fn room<const N: usize>() -> [u8; N]
+    ensures { length result ≡ N }
 {
-    [0; 655360]
+    [0; N]
 }
 
 // Where standard error takes no more there is no one left to tell.
 fn main(rt: HostRuntime) {
-    let mut text = text_room();
+    let mut text = room::<TEXT>();
     let n = read_full(&mut rt.stdin(), &mut text);
-    if n == 1048577 {
+    if n == TEXT {
         let _ = eprintln!(rt; "the text is longer than 1048576 bytes; nothing was packed");
         return;
     }
     let text = &text[..n];
-    let mut records = record_room();
+    let mut records = room::<RECORDS>();
     match pack(text, &mut records) {
         Ok(full) => {
             if rt.write_all(&records[..full]).is_err() {

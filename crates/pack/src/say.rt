@@ -1,9 +1,8 @@
 // Says in words what is wrong with a line.
+use script::{Fault, Place, Why, Wrong};
 use std::fmt;
 
-use script::{Fault, Place, Why, Wrong};
-
-fn name(place: Place) -> &'static str {
+fn name_of(place: Place) -> &'static str {
     match place {
         Place::Threads => "the number of threads",
         Place::Slots => "the number of slots",
@@ -21,7 +20,7 @@ fn name(place: Place) -> &'static str {
 }
 
 // What may stand in a field.
-fn range(place: Place) -> &'static str {
+fn range_of(place: Place) -> &'static str {
     match place {
         Place::Tag => "a number from 0 to 4294967295",
         Place::Slot => "a number from 0 to 255, and in a swap it may be - or none",
@@ -45,7 +44,8 @@ impl fmt::Display for Quoted<'_> {
         };
         f.write_char('\'')?;
         for &b in word.iter().take(40) {
-            f.write_char(if b.is_ascii_graphic() { char::from(b) } else { '?' })?;
+            let shown = if b.is_ascii_graphic() { b } else { b'?' };
+            f.write_char(char::from(shown))?;
         }
         f.write_char('\'')
     }
@@ -63,27 +63,27 @@ impl fmt::Display for Told<'_> {
         let Wrong { line, fault } = self.wrong;
         let Fault { why, place, word } = fault;
         let quoted = Quoted(self.text.get(word.from..word.to));
+        let name = name_of(place);
+        let range = range_of(place);
         write!(f, "line {line}: ")?;
         match (why, place) {
-            (Why::Missing, Place::Operation) => write!(f, "{} is missing; {STEP}", name(place)),
-            (Why::Missing, _) => write!(f, "{} is missing; {SIZES}", name(place)),
-            (Why::NotNumber, _) => {
-                write!(f, "{quoted} is not a number; {} is {}", name(place), range(place))
-            }
-            (Why::TooLarge, _) => {
-                write!(f, "{quoted} is too large; {} is {}", name(place), range(place))
-            }
+            (Why::Missing, Place::Operation) => write!(f, "{name} is missing; {STEP}"),
+            (Why::Missing, _) => write!(f, "{name} is missing; {SIZES}"),
+            (Why::NotNumber, _) => write!(f, "{quoted} is not a number; {name} is {range}"),
+            (Why::TooLarge, _) => write!(f, "{quoted} is too large; {name} is {range}"),
             (Why::NotOperation, _) => write!(
                 f,
                 "{quoted} is not an operation; write take, protect, swap, read, retire, clear or go"
             ),
-            (Why::TooMany, Place::AfterSizes) => write!(f, "{quoted} is one word too many; {SIZES}"),
-            (Why::TooMany, _) => write!(f, "{quoted} is one word too many; {STEP}"),
-            (Why::NoSizes, _) => write!(
+            (Why::TooMany, Place::AfterSizes) => write!(
                 f,
-                "the text ends and has no sizes; the first line is four numbers: threads, slots, links, objects"
+                "{quoted} is one word too many; {SIZES}"
             ),
-            (Why::NoRoom, _) => write!(f, "there is room for 65535 steps, and this is one more"),
+            (Why::TooMany, _) => write!(f, "{quoted} is one word too many; {STEP}"),
+            (Why::NoSizes, _) => f.write_str(
+                "the text ends and has no sizes; the first line is four numbers: threads, slots, links, objects",
+            ),
+            (Why::NoRoom, _) => f.write_str("there is room for 65535 steps, and this is one more"),
         }
     }
 }

@@ -68,16 +68,9 @@ impl Operation {
 
     // None where the number is no operation's.
     pub fn of(number: usize) -> Option<Operation> {
-        match number {
-            1 => Some(Operation::Take),
-            2 => Some(Operation::Protect),
-            3 => Some(Operation::Swap),
-            4 => Some(Operation::Read),
-            5 => Some(Operation::Retire),
-            6 => Some(Operation::Clear),
-            7 => Some(Operation::GoOn),
-            _ => None,
-        }
+        Operation::ALL
+            .into_iter()
+            .find(|&operation| operation as usize == number)
     }
 }
 

@@ -36,14 +36,17 @@ marked n = replicate n true ++ replicate (240 - n) false
 unfoldable pub fresh_pool : ℕ → Pool
 fresh_pool n = pool_of (marked (cond (leb n 240) n 240))
 
--- the object is free no more
+-- the object's mark stored
+unfoldable pub marked_at : Pool → ℕ → Bool → Pool
+marked_at pool zero mark = pool
+marked_at pool (suc k) mark = pool_of (set pool.marks k mark)
 
+-- the object is free no more
 unfoldable pub taken_out : Pool → ℕ → Pool
 taken_out pool zero = pool
 taken_out pool (suc k) = pool_of (set pool.marks k false)
 
 -- the object is free again
-
 unfoldable pub put_back : Pool → ℕ → Pool
 put_back pool zero = pool
 put_back pool (suc k) = pool_of (set pool.marks k true)

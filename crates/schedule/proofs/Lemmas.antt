@@ -2,3 +2,4 @@
 pub mod Asked
 pub mod Begun
 pub mod Enough
+pub mod Told

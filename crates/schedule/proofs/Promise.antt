@@ -12,6 +12,7 @@ use Rattle.schedule.specs.Asked.{found_of, found_in}
 use Rattle.schedule.proofs.Lemmas.Asked as asked
 use Rattle.schedule.proofs.Lemmas.Begun as begun
 use Rattle.schedule.proofs.Lemmas.Enough as enough
+use Rattle.schedule.proofs.Lemmas.Told as told
 
 -- From any bytes: asking finds the calls of the step records at their front, 6,000 at most, what stands after those, and the bytes there.
 pub asking_finds : (bytes : List ℕ) → found_of bytes ≡ found_in bytes (calls_up_to 6000 bytes)
@@ -25,11 +26,14 @@ pub run_found :
     (found_of (rest_of input) ≡ record { calls = calls; ending = ending; left = after (length calls) (rest_of input) })
 run_found = begun.run_found
 
--- An input that says no run opens no machine, and stops with the same number.
+-- An input that says no run opens no machine, and stops with the same number, which no other stop has.
 pub none_opened :
     (input : List ℕ) (number : ℕ) → input_of input ≡ no_run number →
     (why : Stop) × ((opened_of input ≡ unopened why) × (stop_number why ≡ number))
 none_opened = begun.none_opened
+
+pub numbers_tell : (a b : Stop) → stop_number a ≡ stop_number b → a ≡ b
+numbers_tell = told.told
 
 -- 60,020 bytes decide what an input says: what comes after them is never looked at.
 pub enough_read : (input : List ℕ) → input_of (take input_for_all input) ≡ input_of input

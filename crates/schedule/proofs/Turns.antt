@@ -7,6 +7,7 @@ use Rattle.basics.specs.Tests.{by_test, clash}
 use Rattle.entries.specs.Sizes.{in_range}
 use Rattle.machine.specs.declared.State.{State}
 use Rattle.machine.specs.declared.Call.{Call}
+use Rattle.machine.specs.Answers.{number_of}
 use Rattle.machine.specs.Fresh.{fresh_of, start_of}
 use Rattle.records.specs.declared.SizesRecord.{SizesRecord}
 use Rattle.records.specs.declared.Record.TheVariants as record_of
@@ -57,7 +58,7 @@ abbrev Says : Opened → Input → List ℕ → Type 0
 Says by said rest = SaysAt by.verdict by.state said rest
 
 sized_says : (r : SizesRecord) (rest : List ℕ) → Says (opened_by (Ok r)) (sized (sizes_of r) rest) rest
-unfolding sized start_of fresh_of opened_by verdict_of stop_number
+unfolding sized start_of fresh_of opened_by verdict_of stop_number number_of
 sized_says r rest =
     by_test (Says (opened_by (Ok r)) (sized (sizes_of r) rest) rest) (in_range (sizes_of r)) (λ good. rw good (refl, refl)) (λ bad. rw bad refl)
 

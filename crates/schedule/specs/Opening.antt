@@ -1,8 +1,7 @@
 -- The machine with which the run of an input begins, or why it stops before any step.
 use Rattle.std.specs.Prelude.{ℕ, List, Result, Ok, Err, Some, None}
 use Rattle.entries.specs.declared.Sizes.{Sizes}
-use Rattle.machine.specs.declared.Verdict.{Verdict}
-use Rattle.machine.specs.declared.Verdict.TheVariants as verdict
+use Rattle.machine.specs.declared.refusal.Refusal.{Refusal}
 use Rattle.machine.specs.Fresh.{fresh_of, blank, start_of}
 use Rattle.records.specs.declared.SizesRecord.{SizesRecord}
 use Rattle.records.specs.declared.Record.TheVariants as record_of
@@ -31,9 +30,9 @@ unfoldable pub first_of : List ℕ → Result SizesRecord Stop
 first_of input = first_at (read_of input)
 
 -- "20 at the first record" is what starting answers
-unfoldable pub verdict_of : Verdict → Result (Unit {0}) Stop
-verdict_of verdict.Good = Ok tt
-verdict_of (verdict.Refused number) = Err (stop.Refused number)
+unfoldable pub verdict_of : Result (Unit {0}) Refusal → Result (Unit {0}) Stop
+verdict_of (Ok done) = Ok tt
+verdict_of (Err refusal) = Err (stop.Refused refusal)
 
 unfoldable pub opened_by : Result SizesRecord Stop → Opened
 opened_by (Ok r) =

@@ -1,5 +1,6 @@
 -- The number with which a run stops.
 use Rattle.std.specs.Prelude.{ℕ}
+use Rattle.machine.specs.Answers.{number_of}
 use Rattle.records.specs.Numbers.{malformed_number}
 use Rattle.schedule.specs.declared.Stop.{Stop}
 use Rattle.schedule.specs.declared.Stop.TheVariants.{Malformed, Refused, SizesNotFirst, TooManySteps}
@@ -8,6 +9,6 @@ use Rattle.schedule.specs.declared.Stop.TheVariants.{Malformed, Refused, SizesNo
 -- 43: a 6,001st step."
 unfoldable pub stop_number : Stop → ℕ
 stop_number (Malformed why) = malformed_number why
-stop_number (Refused number) = number
+stop_number (Refused refusal) = number_of refusal
 stop_number SizesNotFirst = 42
 stop_number TooManySteps = 43

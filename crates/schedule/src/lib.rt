@@ -9,7 +9,7 @@ ghost use Rattle.schedule.specs.Stopping.{stop_number};
 pub mod going;
 pub mod opening;
 
-use machine::State;
+use machine::{Refusal, State};
 use records::Malformed;
 
 // The machine with which a run begins, or the blank state and why the run stops before its first step.
@@ -24,7 +24,7 @@ pub struct Opened {
 #[derive(Clone, Copy, Debug, PartialEq, Eq)]
 pub enum Stop {
     Malformed(Malformed),
-    Refused(u8),
+    Refused(Refusal),
     SizesNotFirst,
     TooManySteps,
 }
@@ -37,7 +37,7 @@ impl Stop {
     {
         match self {
             Stop::Malformed(why) => why.number(),
-            Stop::Refused(number) => number,
+            Stop::Refused(refusal) => refusal.number(),
             Stop::SizesNotFirst => 42,
             Stop::TooManySteps => 43,
         }

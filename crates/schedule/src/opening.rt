@@ -3,7 +3,7 @@ ghost use Rattle.std.specs.Prelude.{◌≡◌};
 ghost use Rattle.schedule.specs.Opening.{first_of, opened_of};
 
 use crate::{Opened, Stop};
-use machine::{Verdict, start};
+use machine::start;
 use records::reading::read;
 use records::{Record, SizesRecord};
 
@@ -27,10 +27,7 @@ pub fn open(input: &[u8]) -> Opened
             let started = start(sizes.threads, sizes.slots, sizes.links, sizes.objects);
             Opened {
                 state: started.state,
-                verdict: match started.verdict {
-                    Verdict::Good => Ok(()),
-                    Verdict::Refused(number) => Err(Stop::Refused(number)),
-                },
+                verdict: started.verdict.map_err(Stop::Refused),
             }
         }
         // no size is in range here, so this is the blank state

@@ -3,7 +3,7 @@ ghost use Rattle.std.specs.Prelude.{◌≡◌, ◌+◌, ◌≤◌, ◌<◌, leng
 ghost use Rattle.script.specs.Lines.{line_of};
 ghost use Rattle.script.specs.Packing.{next_line, fault_of, no_room, put, added_by, took_of, pack_of, Within};
 
-use crate::lines::line_at;
+use crate::reading::Fields;
 use crate::{Fault, Place, Wrong};
 use records::writing::{write_sizes, write_step};
 use records::{NoRoom, Record};
@@ -43,14 +43,15 @@ fn next_line(text: &[u8], at: usize) -> usize
 }
 
 // Reads the line from `at` on, and writes its record, if it says one, after the bytes that are full. A record that has no room is not
-// written.
+// written. How many bytes are full stands beside the buffer: the caller lends it (fixed memory, no heap).
 #[tactic(auto, using(crate::proofs::Puts::put_none), unfolding(crate::specs::Packing::added_by, crate::specs::Packing::took_of, records::specs::Writing::answer_of))]
 fn take_line(text: &[u8], at: usize, out: &mut [u8], full: usize) -> Result<usize, Fault>
     requires { full ≤ length out.old }
     ensures took { result ≡ took_of (length out.old) full (line_of text.now at (eqb full 0)) }
     ensures bytes { out.new ≡ put full (added_by (length out.old) full (line_of text.now at (eqb full 0))) out.old }
 {
-    let Some(record) = line_at(text, at, full == 0)? else {
+    let line = Fields { text, at };
+    let Some(record) = line.record(full == 0)? else {
         return Ok(full);
     };
     match record {
@@ -70,6 +71,7 @@ pub fn pack(text: &[u8], out: &mut [u8]) -> Result<usize, Wrong>
     let mut at = 0;
     let mut line = 1;
     let mut full = 0;
+    // by places and not by split: a fault names its word by the place in the whole text (`Word`, a public type)
     while at < text.len() {
         full = take_line(text, at, out, full).map_err(|fault| Wrong { line, fault })?;
         at = next_line(text, at);

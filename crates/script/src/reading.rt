@@ -6,8 +6,8 @@ ghost use Rattle.words.specs.Words.{word_at, bytes_of};
 ghost use Rattle.script.specs.Reading.{placed, after, ended_of};
 
 use crate::{Fault, Place};
-use words::finding::{bytes_of, word_at};
 use words::Why;
+use words::finding::{bytes_of, word_at};
 
 // What is left of a line: the text from a place on.
 #[derive(Clone, Copy, Debug)]

@@ -2,14 +2,15 @@
 #![tactic(auto)]
 
 mod ending;
-mod first;
 mod objects;
 mod sentence;
 
 ghost use Rattle.std.specs.Prelude.{◌≡◌, ◌≤◌, length};
 ghost use Rattle.sentences.specs.Lent.{answer_of, buffer_of};
 
-use first::put_text;
+use ending::end;
+use objects::put_lines;
+use text::page::Page;
 
 // 122,880 bytes, room for every text: fewer than 256 lines, each of at most 480 bytes.
 pub const ROOM: usize = 256 * 480;
@@ -25,5 +26,10 @@ pub fn tell(input: &[u8], out: &mut [u8]) -> usize
     if out.len() < ROOM {
         return 0;
     }
-    put_text(input, out)
+    let Ok(state) = end(input) else {
+        return 0;
+    };
+    let mut page = Page::new(out, 0);
+    put_lines(&mut page, state);
+    page.place()
 }

@@ -1,20 +1,19 @@
 // The lines of all objects of a state, one after the other.
-ghost use Rattle.std.specs.Prelude.{◌≤◌, length};
-ghost use Rattle.text.specs.Written.{Appended};
+ghost use Rattle.std.specs.Prelude.{◌≡◌};
+ghost use Rattle.text.specs.Paged.{HasRoom, Wrote};
 ghost use Rattle.sentences.specs.Lent.{room_for_all};
 ghost use Rattle.sentences.specs.Told.{lines_of};
 
 use crate::sentence::put_line;
 use machine::State;
+use text::page::Page;
 
-// The lines of objects 1 to N, at the front of a buffer that has room for them.
-pub(crate) fn put_lines(out: &mut [u8], state: State) -> usize
-    requires { room_for_all ≤ length out.old }
-    ensures { Appended out.old 0 (lines_of state) out.new result }
+// The lines of objects 1 to N, on a page that has room for them.
+pub(crate) fn put_lines(page: &mut Page<'_>, state: State)
+    requires { (page.old.at ≡ 0) × HasRoom room_for_all page.old }
+    ensures { Wrote page.old (lines_of state) page.new }
 {
-    let mut next = 0;
     for object in 1..=state.sizes.objects {
-        next = put_line(out, next, state, object);
+        put_line(page, state, object);
     }
-    next
 }

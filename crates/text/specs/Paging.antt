@@ -17,18 +17,14 @@ then a room b = record { same = b.same ∙ a.same; written = appending.then a.wr
 
 -- bytes, and then one byte after them
 module _ {x : List ℕ} {p q : Page} (b : ℕ) (a : Wrote p x q) (room : p.at + length (x ++ b ∷ []) ≤ length p.out.now) where
-  pub room_for_one : q.at < length q.out.now
-  room_for_one = appending.room_for_one b a.written room
+  pub room_for_one : HasRoom 1 q
+  room_for_one = omega (arith, appending.room_for_one b a.written room)
 
   pub then_one : {r : Page} → Wrote q (b ∷ []) r → Wrote p (x ++ b ∷ []) r
   then_one w = then a (omega (arith, length-append x (b ∷ []))) w
 
 pub length_after : {x : List ℕ} {p q : Page} → Wrote p x q → p.at + length x ≤ length p.out.now → length q.out.now ≡ length p.out.now
 length_after a room = appending.length_after a.written room
-
--- a bound on the place after the bytes
-pub up_to : {x : List ℕ} {p q : Page} (k : ℕ) → Wrote p x q → length x ≤ k → q.at ≤ p.at + k
-up_to k a h = appending.up_to k a.written h
 
 module _ {room : ℕ} {bytes : List ℕ} {p : Page} where
   -- where there is room, the bytes are put
@@ -55,6 +51,22 @@ both_within {all = all} {p = p} {q = q} x y e short room a b =
     let first : Wrote p x q = fitted (omega arith) a in
     let kept = length_after first (omega arith) in
     record { within = short; wrote = rw e (then first (omega arith) (fitted (omega (arith, first.written.next)) b)) }
+
+-- a template that takes no more than three bytes a byte
+pub filled_within :
+    {most room : ℕ} {x : List ℕ} {p q : Page} → room ≤ most → HasRoom most p → q.at ≤ p.at + room → PutOn room x p q → WroteWithin most p x q
+filled_within {room = room} {x = x} {p = p} {q = q} small there within a =
+    let wrote : Wrote p x q = fitted {room = room} (omega arith) a in
+    record { within = omega (arith, wrote.written.next); wrote = wrote }
+
+-- two parts, each within its own room
+module _ (m n : ℕ) {x : List ℕ} {p q : Page} (room : HasRoom (m + n) p) (a : WroteWithin m p x q) where
+  pub room_after : HasRoom n q
+  room_after = omega (arith, a.within, a.wrote.written.next, length_after a.wrote (omega (arith, a.within)))
+
+  pub then_within : {y : List ℕ} {r : Page} → WroteWithin n q y r → WroteWithin (m + n) p (x ++ y) r
+  then_within {y = y} b =
+      record { within = omega (arith, length-append x y, a.within, b.within); wrote = then a.wrote (omega (arith, a.within)) b.wrote }
 
 -- What is put so far, and the bytes still to come: put from here they give what is to be put in all. The invariant of every loop that puts.
 pub record Leads (p : Page) (rest : List ℕ) (p₀ : Page) (all : List ℕ) : Type 0 where

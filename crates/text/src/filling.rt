@@ -1,6 +1,6 @@
 // Puts words with numbers filled in.
 ghost use Rattle.std.specs.Prelude.{◌+◌, ◌*◌, ◌≤◌, length};
-ghost use Rattle.text.specs.Paged.{Wrote, PutOn};
+ghost use Rattle.text.specs.Paged.{HasRoom, Wrote, PutOn};
 ghost use Rattle.text.specs.Words.{filled};
 
 use crate::page::Page;
@@ -8,7 +8,7 @@ use crate::page::Page;
 impl Page<'_> {
     // A template with the numbers in the places of its `%`, 0 where none is left.
     fn put_parts(&mut self, template: &[u8], numbers: &[u8])
-        requires { self.old.at + 3 * length template.now ≤ length self.old.out.now }
+        requires { HasRoom (3 * length template.now) self.old }
         ensures within { self.new.at ≤ self.old.at + 3 * length template.now }
         ensures wrote { Wrote self.old (filled template.now numbers.now) self.new }
     {

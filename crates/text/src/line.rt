@@ -1,8 +1,8 @@
 // Puts a line of numbers.
-ghost use Rattle.std.specs.Prelude.{◌+◌, ◌≤◌, [], ◌∷◌, ◌++◌, map, length};
+ghost use Rattle.std.specs.Prelude.{[], ◌∷◌, ◌++◌, map, length};
 ghost use Rattle.text.specs.Decimal.{decimal};
 ghost use Rattle.text.specs.Fields.{joined};
-ghost use Rattle.text.specs.Paged.{Wrote, PutWholeOn};
+ghost use Rattle.text.specs.Paged.{HasRoom, Wrote, PutWholeOn};
 
 use crate::page::Page;
 use crate::size::is_longer;
@@ -10,7 +10,7 @@ use crate::size::is_longer;
 impl Page<'_> {
     // Numbers as fields: a space after each of these, a newline after the last.
     fn put_numbers(&mut self, front: &[u32], last: u32)
-        requires { self.old.at + length (joined (map decimal (front.now ++ last ∷ []))) ≤ length self.old.out.now }
+        requires { HasRoom (length (joined (map decimal (front.now ++ last ∷ [])))) self.old }
         ensures { Wrote self.old (joined (map decimal (front.now ++ last ∷ []))) self.new }
     {
         for &number in front {

@@ -1,6 +1,6 @@
 // A lent buffer and the place in it where the next byte goes.
-ghost use Rattle.std.specs.Prelude.{◌≡◌, ◌+◌, ◌-◌, ◌≤◌, ◌<◌, [], ◌∷◌, SomeIff, length};
-ghost use Rattle.text.specs.Paged.{Wrote, PutWholeOn};
+ghost use Rattle.std.specs.Prelude.{◌≡◌, ◌-◌, ◌≤◌, [], ◌∷◌, SomeIff, length};
+ghost use Rattle.text.specs.Paged.{HasRoom, Wrote, PutWholeOn};
 
 #[derive(Drop)]
 pub struct Page<'a> {
@@ -9,13 +9,13 @@ pub struct Page<'a> {
 }
 
 impl<'a> Page<'a> {
-    // The place is the buffer's front.
-    pub fn new(out: &'a mut [u8]) -> Page<'a>
+    // The buffer from this place on, which may be past its end.
+    pub fn new(out: &'a mut [u8], at: usize) -> Page<'a>
         ensures same { result.out.ghost_name ≡ out.entry.ghost_name }
         ensures bytes { result.out.now ≡ out.old }
-        ensures place { result.at ≡ 0 }
+        ensures place { result.at ≡ at }
     {
-        Page { out, at: 0 }
+        Page { out, at }
     }
 
     pub fn place(&self) -> usize
@@ -32,7 +32,7 @@ impl<'a> Page<'a> {
     }
 
     pub(crate) fn put_byte(&mut self, byte: u8)
-        requires { self.old.at < length self.old.out.now }
+        requires { HasRoom 1 self.old }
         ensures { Wrote self.old (byte ∷ []) self.new }
     {
         self.out[self.at] = byte;

@@ -4,27 +4,31 @@ ghost use Rattle.words.specs.Words.{kind_of, goes_on, run_of, word_at, bytes_of}
 
 use crate::{Kind, Run, Word};
 
-#[tactic(auto, unfolding(crate::specs::Words::kind_of))]
-fn kind(b: u8) -> Kind
-    ensures { result ≡ kind_of b }
-{
-    match b {
-        b' ' | b'\t' | b'\r' => Kind::Blank,
-        b'\n' => Kind::LineEnd,
-        b'#' => Kind::Comment,
-        _ => Kind::Word,
+impl Kind {
+    #[tactic(auto, unfolding(crate::specs::Words::kind_of))]
+    fn of(b: u8) -> Kind
+        ensures { result ≡ kind_of b }
+    {
+        match b {
+            b' ' | b'\t' | b'\r' => Kind::Blank,
+            b'\n' => Kind::LineEnd,
+            b'#' => Kind::Comment,
+            _ => Kind::Word,
+        }
     }
 }
 
-// Whether a run takes in a byte of this kind.
-#[tactic(auto, unfolding(crate::specs::Words::goes_on))]
-fn goes_on(run: Run, kind: Kind) -> bool
-    ensures { result ≡ goes_on run kind }
-{
-    match run {
-        Run::Word => kind == Kind::Word,
-        Run::Blanks => kind == Kind::Blank,
-        Run::Line => kind != Kind::LineEnd,
+impl Run {
+    // Whether a run takes in a byte of this kind.
+    #[tactic(auto, unfolding(crate::specs::Words::goes_on))]
+    fn takes(self, kind: Kind) -> bool
+        ensures { result ≡ goes_on self kind }
+    {
+        match self {
+            Run::Word => kind == Kind::Word,
+            Run::Blanks => kind == Kind::Blank,
+            Run::Line => kind != Kind::LineEnd,
+        }
     }
 }
 
@@ -33,7 +37,7 @@ pub fn past(text: &[u8], at: usize, run: Run) -> usize
     ensures { result ≡ at + run_of run (drop at text.now) }
 {
     let rest = text.get(at..).unwrap_or(&[]);
-    at + rest.iter().take_while(|b| goes_on(run, kind(**b))).count()
+    at + rest.iter().take_while(|b| run.takes(Kind::of(**b))).count()
 }
 
 // The first word from `at` on.

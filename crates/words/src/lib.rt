@@ -33,7 +33,8 @@ pub struct Word {
     pub to: usize,
 }
 
-// The operations of a step, each with its number in a record.
+// The operations of a step, each with its number in a record. The machine's own are not used: no crate under it stands on this one, nor
+// this one on it.
 #[derive(Clone, Copy, Debug, PartialEq, Eq)]
 pub(crate) enum Operation {
     Take = 1,

@@ -1,8 +1,8 @@
 -- A good pool's marks by their numbers: what is on in a fresh one, what one store changes, and their sum.
 use Prim.Native.Nat.{ℕ, zero, suc, ◌+◌, ◌-◌, ◌<◌, ◌≤◌}
 use native.Mathlib.Omega.{arith}
-use Rattle.std.specs.Prelude.{◌≡◌, refl, Bool, not, ◌||◌, ◌++◌, set, ltb}
-use Rattle.std.proofs.Common.{sym, ap, ◌∙◌, length-append, length-set, get_or-append-add, get_or-set_same, get_or-set_other, eqb-true, eq-eqb, le-leb, lt-ltb, le-ltb, ltb-true, ltb-false}
+use Rattle.std.specs.Prelude.{◌≡◌, refl, Bool, not, ◌||◌, ◌++◌, set, ltb, ◌⊎◌}
+use Rattle.std.proofs.Common.{⊎_elim, sym, ap, ◌∙◌, length-append, length-set, get_or-append-add, get_or-set_same, get_or-set_other, eqb-true, eq-eqb, le-leb, lt-ltb, le-ltb, ltb-true, ltb-false}
 use Rattle.std.proofs.Math.Path.{subst}
 use Rattle.std.proofs.Math.Bool.{true, false}
 use Rattle.std.proofs.lemmas.Bool.{false≢true, not-true}
@@ -14,7 +14,7 @@ use Rattle.basics.specs.Counts.{bit}
 use Rattle.basics.specs.Under.{under_at, under_all}
 use Rattle.basics.specs.Lists.{Each, each_set, all_same}
 use Rattle.basics.specs.Sums.{sum_to, sum_marks}
-use Rattle.pool.specs.Pool.{is_free, marked, fresh_pool, taken_out, put_back, free_count, pool_good, pool_of}
+use Rattle.pool.specs.Pool.{is_free, marked, fresh_pool, marked_at, taken_out, put_back, free_count, pool_good, pool_of}
 
 -- a mark beyond n is off
 abbrev mark_good : ℕ → ℕ → Bool → Bool
@@ -176,37 +176,27 @@ only_fresh pool h =
     let g = to_good 0 pool h in
     ap pool_of (all_same pool.marks 240 false g.long (λ i less. off_beyond 0 pool g i (omega arith)))
 
--- an object that there is a mark for, and one that there is none for, as the code tests it
+-- One store of a mark is taking out or putting back.
 
-module _ (pool : Pool) (o : ℕ) where
-  pub free_at_lem : 0 < o → get_or pool.marks (o - 1) false ≡ is_free pool o
+pub taken_is : (pool : Pool) (o : ℕ) → marked_at pool o false ≡ taken_out pool o
+unfolding marked_at taken_out
+taken_is pool zero = refl
+taken_is pool (suc k) = refl
+
+pub put_is : (pool : Pool) (o : ℕ) → marked_at pool o true ≡ put_back pool o
+unfolding marked_at put_back
+put_is pool zero = refl
+put_is pool (suc k) = refl
+
+-- an object that there is no mark for: nothing is read there, and a store changes nothing
+module _ (pool : Pool) (long : length pool.marks ≡ 240) where
+  pub free_out : (o : ℕ) → (o ≡ 0) ⊎ (240 < o) → false ≡ is_free pool o
   unfolding is_free
-  free_at_lem some = at o some
-    where
-      at : (o : ℕ) → 0 < o → get_or pool.marks (o - 1) false ≡ is_free pool o
-      at zero some = absurd (omega arith)
-      at (suc k) some = let e : suc k - 1 ≡ k = omega arith in rw e
+  free_out zero out = refl
+  free_out (suc k) out = sym (get_or-eq_default pool.marks false (rw long (⊎_elim (λ (e : suc k ≡ 0). omega arith) (λ (past : 240 < suc k). omega arith) out)))
 
-  pub free_past : length pool.marks ≡ 240 → 240 < o → false ≡ is_free pool o
-  free_past long past =
-      sym (get_or-eq_default pool.marks false (rw long (omega arith))) ∙ free_at_lem (omega arith)
-
-module _ (pool : Pool) where
-  pub out_at : (o : ℕ) → 0 < o → pool_of (set pool.marks (o - 1) false) ≡ taken_out pool o
-  unfolding taken_out
-  out_at zero some = absurd (omega arith)
-  out_at (suc k) some = let e : suc k - 1 ≡ k = omega arith in rw e
-
-  pub back_at : (o : ℕ) → 0 < o → pool_of (set pool.marks (o - 1) true) ≡ put_back pool o
-  unfolding put_back
-  back_at zero some = absurd (omega arith)
-  back_at (suc k) some = let e : suc k - 1 ≡ k = omega arith in rw e
-
-  stored_past : (o : ℕ) (mark : Bool) → length pool.marks ≡ 240 → 240 < o → pool ≡ pool_of (set pool.marks (o - 1) mark)
-  stored_past o mark long past = ap pool_of (sym (set_out pool.marks (o - 1) mark (rw long (omega arith))))
-
-  pub out_past : (o : ℕ) → length pool.marks ≡ 240 → 240 < o → pool ≡ taken_out pool o
-  out_past o long past = stored_past o false long past ∙ out_at o (omega arith)
-
-  pub back_past : (o : ℕ) → length pool.marks ≡ 240 → 240 < o → pool ≡ put_back pool o
-  back_past o long past = stored_past o true long past ∙ back_at o (omega arith)
+  pub marked_out : (o : ℕ) (mark : Bool) → (o ≡ 0) ⊎ (240 < o) → pool ≡ marked_at pool o mark
+  unfolding marked_at
+  marked_out zero mark out = refl
+  marked_out (suc k) mark out =
+      ap pool_of (sym (set_out pool.marks k mark (rw long (⊎_elim (λ (e : suc k ≡ 0). omega arith) (λ (past : 240 < suc k). omega arith) out))))

@@ -4,6 +4,8 @@ use Rattle.basics.specs.Tests.{by_test}
 use Rattle.entries.specs.declared.Sizes.{Sizes}
 use Rattle.entries.specs.Sizes.{in_range}
 use Rattle.machine.specs.declared.Call.{Call}
+use Rattle.machine.specs.declared.refusal.Refusal.TheVariants.{SizeOutOfRange}
+use Rattle.machine.specs.Answers.{number_of}
 use Rattle.machine.specs.Fresh.{start_of}
 use Rattle.records.specs.declared.SizesRecord.{SizesRecord}
 use Rattle.records.specs.declared.Record.TheVariants as record_of
@@ -27,9 +29,9 @@ Fits (run z calls ending) by rest =
 Fits (no_run number) by rest = (why : Stop) × ((by ≡ unopened why) × (stop_number why ≡ number))
 
 sized_fits : (r : SizesRecord) (rest : List ℕ) → Fits (sized (sizes_of r) rest) (opened_by (Ok r)) rest
-unfolding sized start_of opened unopened opened_by verdict_of found_in stop_number
+unfolding sized start_of opened unopened opened_by verdict_of found_in stop_number number_of
 sized_fits r rest =
-    by_test (Fits (sized (sizes_of r) rest) (opened_by (Ok r)) rest) (in_range (sizes_of r)) (λ good. rw good (refl, asked rest)) (λ bad. rw bad (Refused 20, (refl, refl)))
+    by_test (Fits (sized (sizes_of r) rest) (opened_by (Ok r)) rest) (in_range (sizes_of r)) (λ good. rw good (refl, asked rest)) (λ bad. rw bad (Refused SizeOutOfRange, (refl, refl)))
 
 begun_fits : (found : Read) (rest : List ℕ) → Fits (begun found rest) (opened_by (first_at found)) rest
 unfolding begun first_at opened_by stop_number

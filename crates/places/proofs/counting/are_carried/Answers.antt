@@ -1,36 +1,14 @@
--- `are_carried` meets its contract.
-use Prim.Native.Nat.{ℕ}
-use mathlib.Core.Path.{◌≡◌, refl, ap, ◌∙◌}
-use native.Mathlib.Omega.{arith}
-use lib.ListN.{length}
+-- `are_carried` meets its contract: std's count is that of the specification.
+use Rattle.std.proofs.Common.{◌≡◌, ◌∙◌, rules}
+use Rattle.std.specs.Prelude.{count_by}
+use Rattle.basics.specs.Counts.{counted}
 use Rattle.entries.specs.declared.Thread.{Thread}
-use Rattle.basics.specs.Counts.{bit, how_many}
-use Rattle.entries.specs.Entries.{idle_thread, is_object}
+use Rattle.entries.specs.Entries.{is_object}
 use Rattle.entries.specs.Phases.{carried_by}
-use Rattle.basics.specs.Counts.{count_next, count_more, count_all}
-use borrow.Author.Rules.{rules}
 use Rattle.places.proofs.counting.are_carried.Goals as goal
-
-pub loop-i-init : goal.loop-i-init
-unfolding how_many
-loop-i-init c = (omega arith, refl)
-
-pub overflow_add-n : goal.overflow_add-n
-overflow_add-n c =
-    let l = c.loop-i in
-    let a = c.args in
-    record { fits = omega (arith, count_next (λ (thread : Thread). is_object (carried_by thread.phase)) a.threads l.i l.n l.invariant.1 idle_thread c.bit-n.result (c.bit-n.ensures ∙ ap (λ (object : ℕ). bit (is_object object)) c.carried.ensures)) }
-
-pub loop-i-preserved : goal.loop-i-preserved
-loop-i-preserved c =
-    let l = c.loop-i in
-    let a = c.args in
-    let long : length a.threads ≡ 8 = search rules in
-    (omega arith, count_more (λ (thread : Thread). is_object (carried_by thread.phase)) a.threads l.i l.n l.invariant.1 idle_thread c.bit-n.result (omega arith) (c.bit-n.ensures ∙ ap (λ (object : ℕ). bit (is_object object)) c.carried.ensures))
 
 pub returns : goal.returns
 returns c =
-    let l = c.loop-i in
-    let a = c.args in
-    let long : length a.threads ≡ 8 = search rules in
-    count_all (λ (thread : Thread). is_object (carried_by thread.phase)) a.threads l.i l.n l.invariant.1 (omega arith)
+    let counts = (λ (thread : Thread). is_object (carried_by thread.phase)) in
+    let n : c.count.result ≡ count_by counts c.args.threads = search rules in
+    n ∙ counted counts c.args.threads

@@ -1,19 +1,38 @@
 -- `row_of` meets its contract: each kind of place is laid into its own room.
-use Rattle.std.proofs.Common.{arith, rules}
-use Rattle.places.specs.Lemmas.Laying.{laid_up_to}
+use Rattle.std.proofs.Common.{◌≡◌, ℕ, List, arith, rules, length, take, map, replicate, ap, ◌∙◌, map-id}
+use Rattle.std.proofs.Math.Seq.{paste}
+use Rattle.entries.specs.declared.Thread.{Thread}
+use Rattle.entries.specs.declared.Slot.{Slot}
+use Rattle.entries.specs.Phases.{carried_by}
+use Rattle.places.specs.Lemmas.Laying.{laid_up_to, front_laid}
 use Rattle.places.proofs.row.row_of.Goals as goal
 
 pub returns : goal.returns
 returns c =
     let a = c.args in
-    laid_up_to a.z a.links a.threads a.slots (search rules) (search rules) (search rules)
-    c.least.result
-    c.least-some.result
-    c.least-2.result
-    (omega (arith, c.least.ensures, c.wide-2.ensures))
-    (omega (arith, c.least-some.ensures, c.wide.ensures))
-    (omega (arith, c.least-2.ensures, c.positions.ensures))
-    c.lay_links.ensures
-    c.lay_hands.ensures
-    c.lay_handovers.ensures
-    c.lay_carried.ensures
+    let L = c.min-links_end.result in
+    let T = c.min-some.result in
+    let P = c.min-slots_end.result in
+    let links : length a.links ≡ 16 = search rules in
+    let threads : length a.threads ≡ 8 = search rules in
+    let slots : length a.slots ≡ 32 = search rules in
+    let one : c.lay.new.row ≡ paste (replicate 64 0) 0 (map (λ (link : ℕ). link) (take L a.links)) (length (take L a.links)) =
+    c.lay.ensures (λ (link : ℕ). link) (λ x r e. search rules)
+    in
+    let two : c.lay-2.new.row ≡ paste c.lay.new.row 16 (map (λ (thread : Thread). thread.hand) (take T a.threads)) (length (take T a.threads)) =
+    c.lay-2.ensures (λ (thread : Thread). thread.hand) (λ x r e. search rules)
+    in
+    let three : c.lay-3.new.row ≡ paste c.lay-2.new.row 24 (map (λ (slot : Slot). slot.handover) (take P a.slots)) (length (take P a.slots)) =
+    c.lay-3.ensures (λ (slot : Slot). slot.handover) (λ x r e. search rules)
+    in
+    let four : c.lay-4.new.row ≡ paste c.lay-3.new.row 56 (map (λ (thread : Thread). carried_by thread.phase) (take T a.threads)) (length (take T a.threads)) =
+    c.lay-4.ensures (λ (thread : Thread). carried_by thread.phase) (λ x r e. search rules)
+    in
+    laid_up_to a.z a.links a.threads a.slots links threads slots L T P
+    (omega (arith, c.min-links_end.ensures, c.from-2.ensures))
+    (omega (arith, c.min-some.ensures, c.from.ensures))
+    (omega (arith, c.min-slots_end.ensures, c.positions.ensures))
+    (front_laid (λ (link : ℕ). link) (replicate 64 0) 0 a.links L (omega arith) one ∙ ap (λ (l : List ℕ). paste (replicate 64 0) 0 l L) (map-id a.links))
+    (front_laid (λ (thread : Thread). thread.hand) c.lay.new.row 16 a.threads T (omega arith) two)
+    (front_laid (λ (slot : Slot). slot.handover) c.lay-2.new.row 24 a.slots P (omega arith) three)
+    (front_laid (λ (thread : Thread). carried_by thread.phase) c.lay-3.new.row 56 a.threads T (omega arith) four)

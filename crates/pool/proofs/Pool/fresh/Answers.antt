@@ -1,13 +1,16 @@
 -- `fresh` meets its contract: the first marks are on, of which there are 240 at the most.
-use mathlib.Core.Path.{ap, ◌∙◌}
-use borrow.Author.Tests.{le-leb, lt-leb}
-use Rattle.pool.specs.Pool.{fresh_pool, pool_of}
+use Rattle.std.proofs.Common.{◌≡◌, cond, min, leb, ℕ, arith, ap, ◌∙◌}
+use borrow.Author.Tests.{leb-true, leb-false}
+use Rattle.basics.specs.Tests.{by_test}
+use Rattle.pool.specs.Pool.{fresh_pool, pool_of, marked}
 use Rattle.pool.proofs.Pool.fresh.Goals as goal
 
-pub returns-then-objects-gt240 : goal.returns-then-objects-gt240
-unfolding fresh_pool
-returns-then-objects-gt240 c = ap pool_of c.first_marked-all.ensures ∙ rw (lt-leb _ _ c.if-objects-gt240.true)
+lower : (n : ℕ) → min n 240 ≡ cond (leb n 240) n 240
+lower n =
+    by_test (min n 240 ≡ cond (leb n 240) n 240) (leb n 240)
+    (λ within. let most = leb-true n 240 within in rw within (omega arith))
+    (λ past. let more = leb-false n 240 past in rw past (omega arith))
 
 pub returns : goal.returns
 unfolding fresh_pool
-returns c = ap pool_of c.first_marked-marks.ensures ∙ rw (le-leb _ _ c.if-objects-gt240.false)
+returns c = ap pool_of (c.first_marked.ensures ∙ ap marked (c.min.ensures ∙ lower c.args.objects))

@@ -1,23 +1,25 @@
 -- `off_from` meets its contract.
-use mathlib.Core.Path.{refl, ◌∙◌}
-use mathlib.Core.Bool.{false, not}
-use native.Mathlib.Omega.{arith}
-use lib.ListN.{get_or}
-use Rattle.basics.specs.Under.{beyond_none, beyond_next, beyond_end}
+use Rattle.std.proofs.Common.{◌≡◌, ◌-◌, false, refl, not, length, take, drop, rules, arith, ◌∙◌, ap, take_all}
+use Rattle.std.proofs.lemmas.List.{take_rest}
+use Rattle.std.specs.List.{list_all}
+use Rattle.std.proofs.lemmas.List.Folds.{list_all_more}
+use Rattle.basics.specs.Under.{beyond_listed}
 use Rattle.pool.proofs.marks.off_from.Goals as goal
 
-pub loop-k-init : goal.loop-k-init
-loop-k-init c = (omega arith, λ past. refl, beyond_none _ _)
+pub loop-mark-init : goal.loop-mark-init
+loop-mark-init c = refl
 
-pub loop-k-preserved : goal.loop-k-preserved
-loop-k-preserved c =
-    let a = c.args in
-    let at = c.loop-k in
-    (omega arith, λ past. absurd (omega arith), beyond_next _ at.k (λ k. not (get_or a.marks.now k false)) at.invariant.0 at.invariant.2)
+pub loop-mark-preserved : goal.loop-mark-preserved
+loop-mark-preserved c =
+    let k = c.loop-mark.mark-index in
+    let marks = take (240 - c.from.result) (drop c.from.result c.args.marks.now) in
+    rw (list_all_more not marks k false c.loop-mark-test.true, c.loop-mark.invariant)
 
 pub returns : goal.returns
 returns c =
-    let a = c.args in
-    let at = c.loop-k in
-    let started = c.wide-k.ensures in
-    beyond_end a.n at.k 240 (λ k. not (get_or a.marks.now k false)) (omega arith) (λ past. at.invariant.1 past ∙ started) (rw (← started) at.invariant.2)
+    let marks = c.args.marks.now in
+    let n = c.from.result in
+    let long : length marks ≡ 240 = search rules in
+    let rest : take (240 - n) (drop n marks) ≡ drop n marks = rw long at (take_rest marks n) in
+    let all = take_all c.loop-mark.mark-index (take (240 - n) (drop n marks)) (omega arith) in
+    c.loop-mark.invariant ∙ ap (list_all not) (all ∙ rest) ∙ rw c.from.ensures (beyond_listed not false c.args.n 240 marks long)

@@ -11,20 +11,20 @@ pub returns-in_err-write_sizes-in-Sizes-clause-bytes :
 unfolding added_by sizes_bytes
 returns-in_err-write_sizes-in-Sizes-clause-bytes c =
     let out = c.args.out.now in
-    rw (sym c.line_at.ensures, c.in_ok-record.was, c.in-Some.is, c.in-Sizes.is, c.write_sizes.ensures.bytes) (put_part c.args.full (sizes_bytes c.in-Sizes.sizes) out refl c.requires)
+    rw (sym c.record.ensures, c.in_ok-record.was, c.in-Some.is, c.in-Sizes.is, c.write_sizes.ensures.bytes) (put_part c.args.full (sizes_bytes c.in-Sizes.sizes) out refl c.requires)
 
 pub returns-in_err-write_step-in-Step-clause-bytes :
     goal.returns-in_err-write_step-in-Step-clause-bytes
 unfolding added_by step_bytes low_first
 returns-in_err-write_step-in-Step-clause-bytes c =
     let out = c.args.out.now in
-    rw (sym c.line_at.ensures, c.in_ok-record.was, c.in-Some.is, c.in-Step.is, c.write_step.ensures.bytes) (put_part c.args.full (step_bytes c.in-Step.step) out refl c.requires)
+    rw (sym c.record.ensures, c.in_ok-record.was, c.in-Some.is, c.in-Step.is, c.write_step.ensures.bytes) (put_part c.args.full (step_bytes c.in-Step.step) out refl c.requires)
 
 pub returns-clause-bytes : goal.returns-clause-bytes
 unfolding added_by sizes_bytes step_bytes low_first
 returns-clause-bytes c =
     let out = c.args.out.now in
     elim c.match-record.branch [
-      | in-Sizes+in_ok-write_sizes-in-Sizes w ↦ rw (w.out-is, sym c.line_at.ensures, c.in_ok-record.was, c.in-Some.is, w.in-Sizes.is, w.write_sizes.ensures.bytes) (put_part c.args.full (sizes_bytes w.in-Sizes.sizes) out refl c.requires)
-      | in-Step+in_ok-write_step-in-Step w ↦ rw (w.out-is, sym c.line_at.ensures, c.in_ok-record.was, c.in-Some.is, w.in-Step.is, w.write_step.ensures.bytes) (put_part c.args.full (step_bytes w.in-Step.step) out refl c.requires)
+      | in-Sizes+in_ok-write_sizes-in-Sizes w ↦ rw (w.out-is, sym c.record.ensures, c.in_ok-record.was, c.in-Some.is, w.in-Sizes.is, w.write_sizes.ensures.bytes) (put_part c.args.full (sizes_bytes w.in-Sizes.sizes) out refl c.requires)
+      | in-Step+in_ok-write_step-in-Step w ↦ rw (w.out-is, sym c.record.ensures, c.in_ok-record.was, c.in-Some.is, w.in-Step.is, w.write_step.ensures.bytes) (put_part c.args.full (step_bytes w.in-Step.step) out refl c.requires)
     ]

@@ -1,25 +1,24 @@
 -- `sentences::objects::put_lines` meets its contract: the lines of this object and those after it are still to come.
-use native.Mathlib.Omega.{arith}
-use Rattle.sentences.proofs.Each.{at_first, on_line, at_end}
+use Rattle.std.proofs.Common.{arith}
+use Rattle.sentences.proofs.Each.{at_first, room_on, on_line, at_end}
 use Rattle.sentences.proofs.objects.put_lines.Goals as goal
 
 pub loop-object-init : goal.loop-object-init
-loop-object-init c = at_first c.args.state _
+loop-object-init c = at_first c.args.state _ c.requires.0
 
-pub put_line-next-requires : goal.put_line-next-requires
-put_line-next-requires c = omega arith
+pub put_line-requires : goal.put_line-requires
+put_line-requires c = room_on c.args.state c.loop-object.invariant c.requires.1 c.requires.0 (omega arith)
 
 pub loop-object-preserved : goal.loop-object-preserved
 loop-object-preserved c =
-    let line = c.put_line-next.ensures in
-    on_line c.args.state c.loop-object.invariant c.loop-object-test.true (omega arith) (omega arith) line.0 line.1
+    on_line c.args.state c.loop-object.invariant c.requires.1 c.requires.0 c.loop-object-test.true (omega arith) c.put_line.ensures
 
 pub returns : goal.returns
-returns c = at_end c.args.state c.loop-object.invariant c.loop-object-test.false
+returns c = at_end c.args.state c.loop-object.invariant c.requires.1 c.requires.0 c.loop-object-test.false
 
 pub returns-2 : goal.returns-2
 returns-2 c =
-    let line = c.put_line-next.ensures in
     at_end c.args.state
-    (on_line c.args.state c.loop-object.invariant c.loop-object-test.true (omega arith) (omega arith) line.0 line.1)
+    (on_line c.args.state c.loop-object.invariant c.requires.1 c.requires.0 c.loop-object-test.true (omega arith) c.put_line.ensures)
+    c.requires.1 c.requires.0
     (omega arith)
