@@ -1,10 +1,10 @@
 -- A test of each number under n, as a loop that goes up makes it: what it knows as it goes, and what one failure decides.
-use Rattle.std.specs.Prelude.{◌≡◌, refl, Bool, true, false, cond, ◌&&◌, ◌||◌, List, [], ◌∷◌, length, take, drop, get_or, fold, ℕ, zero, suc, ◌+◌, ◌≤◌, ◌<◌, ltb}
+use Rattle.std.specs.Prelude.{◌≡◌, refl, Bool, true, false, cond, ◌&&◌, ◌||◌, List, [], ◌∷◌, length, take, drop, get_or, fold, ℕ, zero, suc, ◌+◌, ◌≤◌, ◌<◌, min, ltb}
 use Rattle.std.specs.List.{list_all, enumerate_from}
-use Rattle.std.proofs.Common.{sym, ap, ap₂, ◌∙◌, ⊎_elim, not-suc-le-zero, le_of_suc-le-suc, eq-or-lt_of_le, add-one, arith, ltb-false, le-ltb, lt-ltb}
+use Rattle.std.proofs.Common.{sym, ap, ap₂, ◌∙◌, ⊎_elim, not-suc-le-zero, le_of_suc-le-suc, eq-or-lt_of_le, add-one, arith, ltb-false, ltb-true, le-ltb, lt-ltb}
 use Rattle.std.proofs.Math.Path.{fun_ext}
 use Rattle.std.proofs.Math.Bool.{and-false, and-true, and_assoc}
-use Rattle.basics.specs.Tests.{both}
+use Rattle.basics.specs.Tests.{both, by_test}
 
 -- the test holds of each number under n
 unfoldable pub all_under : ℕ → (ℕ → Bool) → Bool
@@ -174,3 +174,27 @@ beyond_listed test d m n xs long =
     ap (λ (b : Bool). b && list_all test (drop m xs)) (sym (all_pass (take m xs))) ∙
     under_sides (λ x. true) test d m n xs long ∙
     under_same n (λ i. cond (ltb i m) true (test (get_or xs i d))) (λ i. ltb i m || test (get_or xs i d)) (λ i less. or_cond (ltb i m) (test (get_or xs i d)))
+
+-- where m may be past the n there are
+
+within_least : (i m n : ℕ) → i < n → ltb i (min m n) ≡ ltb i m
+within_least i m n inside =
+    by_test (ltb i (min m n) ≡ ltb i m) (ltb i m)
+    (λ yes'. let less = ltb-true i m yes' in let both : i < min m n = omega arith in lt-ltb i (min m n) both ∙ sym yes')
+    (λ no'. let from = ltb-false i m no' in let past : min m n ≤ i = omega arith in le-ltb i (min m n) past ∙ sym no')
+
+pub under_sides_least : {A : Type 0} (within beyond : A → Bool) (d : A) (m n : ℕ) (xs : List A) → length xs ≡ n
+    → (list_all within (take (min m n) xs) && list_all beyond (drop (min m n) xs))
+    ≡ all_under n (λ i. cond (ltb i m) (within (get_or xs i d)) (beyond (get_or xs i d)))
+under_sides_least within beyond d m n xs long =
+    under_sides within beyond d (min m n) n xs long ∙
+    under_same n (λ i. cond (ltb i (min m n)) (within (get_or xs i d)) (beyond (get_or xs i d)))
+    (λ i. cond (ltb i m) (within (get_or xs i d)) (beyond (get_or xs i d)))
+    (λ i less. ap (λ (b : Bool). cond b (within (get_or xs i d)) (beyond (get_or xs i d))) (within_least i m n less))
+
+pub beyond_listed_least : {A : Type 0} (test : A → Bool) (d : A) (m n : ℕ) (xs : List A) → length xs ≡ n
+    → list_all test (drop (min m n) xs) ≡ all_under n (λ i. ltb i m || test (get_or xs i d))
+beyond_listed_least test d m n xs long =
+    beyond_listed test d (min m n) n xs long ∙
+    under_same n (λ i. ltb i (min m n) || test (get_or xs i d)) (λ i. ltb i m || test (get_or xs i d))
+    (λ i less. ap (λ (b : Bool). b || test (get_or xs i d)) (within_least i m n less))

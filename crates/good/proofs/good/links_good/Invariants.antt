@@ -1,12 +1,8 @@
-use Prim.Native.Nat.{◌≤◌, ◌-◌}
-use mathlib.Core.Path.{◌≡◌}
-use lib.ListN.{get_or}
+-- the links passed are good, or one is not
+use Rattle.std.specs.Prelude.{◌≡◌, get_or}
 use Rattle.basics.specs.Under.{all_under}
 use Rattle.entries.specs.Entries.{link_good}
 use Rattle.good.proofs.good.links_good.Given as goal
 
 abbrev pub invariant-loop-i : goal.invariant-loop-i
-invariant-loop-i l = (l.i ≤ 16) × (l.good ≡ all_under l.i (λ k. link_good l.z k (get_or l.links k 0)))
-
-abbrev pub decreases-loop-i : goal.decreases-loop-i
-decreases-loop-i l = 16 - l.i
+invariant-loop-i l = l.good ≡ all_under l.i (λ i. link_good l.z i (get_or l.links i 0))

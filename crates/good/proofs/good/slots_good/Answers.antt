@@ -1,49 +1,43 @@
--- `slots_good` meets its contract. The loops' invariants: the entries passed are good; and if those under p₀ are, so are those passed.
-use mathlib.Core.Path.{◌≡◌, refl, sym, ◌∙◌}
-use native.Mathlib.Omega.{arith}
-use Rattle.basics.specs.Under.{all_under}
-use Rattle.entries.specs.Facts.{slot_within, slot_beyond}
-use Rattle.basics.specs.Tests.{refused, passed}
-use Rattle.basics.specs.Under.{under_more, under_fails}
+-- `slots_good` meets its contract: those within the sizes are in range, and those beyond them empty.
+use Rattle.std.proofs.Common.{◌≡◌, refl, Bool, ◌&&◌, min, length, take, drop, rules, tests, ◌∙◌, sym}
+use Rattle.std.specs.List.{list_all}
+use Rattle.std.proofs.lemmas.Iterator.{YieldsList-from_slice}
+use Rattle.std.proofs.lemmas.Iterator.Search.{all_from_yields_List}
+use Rattle.basics.specs.Under.{all_under, under_sides_least}
+use Rattle.basics.specs.Tests.{and_not, and_then}
+use Rattle.entries.specs.declared.Slot.{Slot}
+use Rattle.entries.specs.Sizes.{positions}
+use Rattle.entries.specs.Entries.{empty_slot, slot_in_range, slot_empty, slot_good}
 use Rattle.good.proofs.good.slots_good.Goals as goal
 
-pub loop-p-init : goal.loop-p-init
-unfolding all_under
-loop-p-init c = (omega arith, refl)
+pub returns-then-all : goal.returns-then-all
+unfolding slot_good
+returns-then-all c =
+    let a = c.args in
+    let m = c.min.result in
+    let within = (λ (slot : Slot). slot_in_range a.z.objects slot) in
+    let beyond = (λ (slot : Slot). slot_empty slot) in
+    let long : length a.slots ≡ 32 = search rules in
+    let end : m ≡ min (positions a.z) 32 = search rules in
+    let first : c.all.result ≡ list_all within (take m a.slots) =
+    all_from_yields_List within _ _ c.all.result c.all.ensures.ran (YieldsList-from_slice (take m a.slots) cc) (λ x b q k. search (rules, tests))
+    in
+    let second : c.all-then-all.result ≡ list_all beyond (drop m a.slots) =
+    all_from_yields_List beyond _ _ c.all-then-all.result c.all-then-all.ensures.ran (YieldsList-from_slice (drop m a.slots) cc) (λ x b q k. search (rules, tests))
+    in
+    second ∙ sym (and_then (sym first ∙ c.if-all.true) refl) ∙ rw end (under_sides_least within beyond empty_slot (positions a.z) 32 a.slots long)
 
-pub returns-then-not-slot_in_range : goal.returns-then-not-slot_in_range
-returns-then-not-slot_in_range c = let at = c.loop-p in
-    sym
-    (under_fails at.p 32 _ (omega arith)
-    (slot_within _ at.p _ (omega arith) ∙ refused c.slot_in_range.ensures c.if-not-slot_in_range.true-raw))
-
-pub loop-p-preserved : goal.loop-p-preserved
-loop-p-preserved c = let at = c.loop-p in (
-  omega arith,
-  under_more at.p _ at.invariant.1
-      (slot_within _ at.p _ (omega arith) ∙ passed c.slot_in_range.ensures c.if-not-slot_in_range.false-raw),
-)
-
-pub loop-p-2-init : goal.loop-p-2-init
-loop-p-2-init c = (omega arith, omega arith, λ z past all. all)
-
-pub returns-then-not-slot_empty : goal.returns-then-not-slot_empty
-returns-then-not-slot_empty c = let at = c.loop-p-2 in
-    sym
-    (under_fails at.p 32 _ (omega arith)
-    (slot_beyond _ at.p _ (omega arith) ∙ refused c.slot_empty.ensures c.if-not-slot_empty.true-raw))
-
-pub loop-p-2-preserved : goal.loop-p-2-preserved
-loop-p-2-preserved c = let at = c.loop-p-2 in (
-  omega arith,
-  omega arith,
-  λ z past all.
-      let reached = past (omega arith) in
-      under_more at.p _ (at.invariant.2 z past all)
-      (slot_beyond _ at.p _ (omega arith) ∙ passed c.slot_empty.ensures c.if-not-slot_empty.false-raw),
-)
-
-pub returns : goal.returns
-returns c = let at = c.loop-p-2 in
-    let all-passed : 32 ≡ at.p = omega arith in
-    sym (rw all-passed (at.invariant.2 _ (λ less. omega arith) c.loop-p.invariant.1))
+pub returns-else-all : goal.returns-else-all
+unfolding slot_good
+returns-else-all c =
+    let a = c.args in
+    let m = c.min.result in
+    let within = (λ (slot : Slot). slot_in_range a.z.objects slot) in
+    let beyond = (λ (slot : Slot). slot_empty slot) in
+    let long : length a.slots ≡ 32 = search rules in
+    let end : m ≡ min (positions a.z) 32 = search rules in
+    let first : c.all.result ≡ list_all within (take m a.slots) =
+    all_from_yields_List within _ _ c.all.result c.all.ensures.ran (YieldsList-from_slice (take m a.slots) cc) (λ x b q k. search (rules, tests))
+    in
+    c.if-all.false ∙ sym (and_not (list_all beyond (drop m a.slots)) (sym first ∙ c.if-all.false)) ∙
+    rw end (under_sides_least within beyond empty_slot (positions a.z) 32 a.slots long)

@@ -1,23 +1,30 @@
--- `tags_good` meets its contract. The loop's invariant: what is carried is the test of the entries under k, of which those under N pass.
-use mathlib.Core.Path.{refl, ◌∙◌}
-use native.Mathlib.Omega.{arith}
-use lib.ListN.{get_or}
-use lib.Dec.{eqb}
+-- `tags_good` meets its contract.
+use Rattle.std.proofs.Common.{◌≡◌, ◌-◌, ℕ, List, refl, eqb, min, length, take, drop, rules, arith, ◌∙◌, sym, ap, take_all}
+use Rattle.std.proofs.lemmas.List.{take_rest}
+use Rattle.std.specs.List.{list_all}
+use Rattle.std.proofs.lemmas.List.Folds.{list_all_more}
+use Rattle.basics.specs.Under.{beyond_listed_least}
 use Rattle.entries.specs.Entries.{tag_good}
-use Rattle.basics.specs.Under.{beyond_none, beyond_next, beyond_end}
 use Rattle.good.proofs.good.tags_good.Goals as goal
 
-pub loop-k-init : goal.loop-k-init
-loop-k-init c = (omega arith, λ past. refl, beyond_none _ _)
+pub loop-tag-init : goal.loop-tag-init
+loop-tag-init c = refl
 
-pub loop-k-preserved : goal.loop-k-preserved
-loop-k-preserved c = let a = c.args in
-    let at = c.loop-k in
-    (omega arith, λ past. absurd (omega arith), beyond_next _ at.k (λ k. eqb (get_or a.tags.now k 0) 0) at.invariant.0 at.invariant.2)
+pub loop-tag-preserved : goal.loop-tag-preserved
+loop-tag-preserved c =
+    let k = c.loop-tag.tag-index in
+    let m = c.min.result in
+    let tags = take (240 - m) (drop m c.args.tags.now) in
+    rw (list_all_more (λ (tag : ℕ). eqb tag 0) tags k 0 c.loop-tag-test.true, c.loop-tag.invariant)
 
 pub returns : goal.returns
 unfolding tag_good
-returns c = let a = c.args in
-    let at = c.loop-k in
-    let started = c.wide-k.ensures in
-    beyond_end a.z.objects at.k 240 (λ k. eqb (get_or a.tags.now k 0) 0) (omega arith) (λ past. at.invariant.1 past ∙ started) (rw (← started) at.invariant.2)
+returns c =
+    let tags = c.args.tags.now in
+    let m = c.min.result in
+    let zero' = (λ (tag : ℕ). eqb tag 0) in
+    let long : length tags ≡ 240 = search rules in
+    let end : m ≡ min c.args.z.objects 240 = rw c.from.ensures at c.min.ensures in
+    let rest : take (240 - m) (drop m tags) ≡ drop m tags = rw long at (take_rest tags m) in
+    let all = take_all c.loop-tag.tag-index (take (240 - m) (drop m tags)) (omega arith) in
+    c.loop-tag.invariant ∙ ap (list_all zero') (all ∙ rest) ∙ rw end (beyond_listed_least zero' 0 c.args.z.objects 240 tags long)

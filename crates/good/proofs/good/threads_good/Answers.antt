@@ -1,49 +1,43 @@
--- `threads_good` meets its contract. The loops' invariants: the entries passed are good; and if those under t₀ are, so are those passed.
-use mathlib.Core.Path.{◌≡◌, refl, sym, ◌∙◌}
-use native.Mathlib.Omega.{arith}
-use Rattle.basics.specs.Under.{all_under}
-use Rattle.entries.specs.Facts.{thread_within, thread_beyond}
-use Rattle.basics.specs.Tests.{refused, passed}
-use Rattle.basics.specs.Under.{under_more, under_fails}
+-- `threads_good` meets its contract: those within the sizes are in range, and those beyond them empty.
+use Rattle.std.proofs.Common.{◌≡◌, refl, Bool, ◌&&◌, min, length, take, drop, rules, tests, ◌∙◌, sym}
+use Rattle.std.specs.List.{list_all}
+use Rattle.std.proofs.lemmas.Iterator.{YieldsList-from_slice}
+use Rattle.std.proofs.lemmas.Iterator.Search.{all_from_yields_List}
+use Rattle.basics.specs.Under.{all_under, under_sides_least}
+use Rattle.basics.specs.Tests.{and_not, and_then}
+use Rattle.entries.specs.declared.Thread.{Thread}
+use Rattle.entries.specs.Sizes.{positions}
+use Rattle.entries.specs.Entries.{idle_thread, thread_in_range, thread_empty, thread_good}
 use Rattle.good.proofs.good.threads_good.Goals as goal
 
-pub loop-t-init : goal.loop-t-init
-unfolding all_under
-loop-t-init c = (omega arith, refl)
+pub returns-then-all : goal.returns-then-all
+unfolding thread_good
+returns-then-all c =
+    let a = c.args in
+    let m = c.min.result in
+    let within = (λ (thread : Thread). thread_in_range a.z thread) in
+    let beyond = (λ (thread : Thread). thread_empty thread) in
+    let long : length a.threads ≡ 8 = search rules in
+    let end : m ≡ min a.z.threads 8 = search rules in
+    let first : c.all.result ≡ list_all within (take m a.threads) =
+    all_from_yields_List within _ _ c.all.result c.all.ensures.ran (YieldsList-from_slice (take m a.threads) cc) (λ x b q k. search (rules, tests))
+    in
+    let second : c.all-then-all.result ≡ list_all beyond (drop m a.threads) =
+    all_from_yields_List beyond _ _ c.all-then-all.result c.all-then-all.ensures.ran (YieldsList-from_slice (drop m a.threads) cc) (λ x b q k. search (rules, tests))
+    in
+    second ∙ sym (and_then (sym first ∙ c.if-all.true) refl) ∙ rw end (under_sides_least within beyond idle_thread a.z.threads 8 a.threads long)
 
-pub returns-then-not-thread_in_range : goal.returns-then-not-thread_in_range
-returns-then-not-thread_in_range c = let at = c.loop-t in
-    sym
-    (under_fails at.t 8 _ (omega arith)
-    (thread_within _ at.t _ (omega arith) ∙ refused c.thread_in_range.ensures c.if-not-thread_in_range.true-raw))
-
-pub loop-t-preserved : goal.loop-t-preserved
-loop-t-preserved c = let at = c.loop-t in (
-  omega arith,
-  under_more at.t _ at.invariant.1
-      (thread_within _ at.t _ (omega arith) ∙ passed c.thread_in_range.ensures c.if-not-thread_in_range.false-raw),
-)
-
-pub loop-t-2-init : goal.loop-t-2-init
-loop-t-2-init c = (omega arith, omega arith, λ z past all. all)
-
-pub returns-then-not-thread_empty : goal.returns-then-not-thread_empty
-returns-then-not-thread_empty c = let at = c.loop-t-2 in
-    sym
-    (under_fails at.t 8 _ (omega arith)
-    (thread_beyond _ at.t _ (omega arith) ∙ refused c.thread_empty.ensures c.if-not-thread_empty.true-raw))
-
-pub loop-t-2-preserved : goal.loop-t-2-preserved
-loop-t-2-preserved c = let at = c.loop-t-2 in (
-  omega arith,
-  omega arith,
-  λ z past all.
-      let reached = past (omega arith) in
-      under_more at.t _ (at.invariant.2 z past all)
-      (thread_beyond _ at.t _ (omega arith) ∙ passed c.thread_empty.ensures c.if-not-thread_empty.false-raw),
-)
-
-pub returns : goal.returns
-returns c = let at = c.loop-t-2 in
-    let all-passed : 8 ≡ at.t = omega arith in
-    sym (rw all-passed (at.invariant.2 _ (λ less. omega arith) c.loop-t.invariant.1))
+pub returns-else-all : goal.returns-else-all
+unfolding thread_good
+returns-else-all c =
+    let a = c.args in
+    let m = c.min.result in
+    let within = (λ (thread : Thread). thread_in_range a.z thread) in
+    let beyond = (λ (thread : Thread). thread_empty thread) in
+    let long : length a.threads ≡ 8 = search rules in
+    let end : m ≡ min a.z.threads 8 = search rules in
+    let first : c.all.result ≡ list_all within (take m a.threads) =
+    all_from_yields_List within _ _ c.all.result c.all.ensures.ran (YieldsList-from_slice (take m a.threads) cc) (λ x b q k. search (rules, tests))
+    in
+    c.if-all.false ∙ sym (and_not (list_all beyond (drop m a.threads)) (sym first ∙ c.if-all.false)) ∙
+    rw end (under_sides_least within beyond idle_thread a.z.threads 8 a.threads long)
