@@ -11,9 +11,9 @@ pub enum Doing {
 }
 
 // One struct for all that a thread can be in the middle of, where the first machine has an enum whose cases carry these numbers: the
-// two are to differ in layout too. Fields that a task does not use are 0. `seen` is the object that Loaded, Look or Swap names. `back` is set where request 2 has
-// the thread return to Published: in the drain that follows a publication, which is called a sweep, and in the scan that comes
-// of it. Their slot and link are those of the protect.
+// two are to differ in layout too. Fields that a task does not use are 0. `seen` is the object that Loaded, Look or Swap names.
+// `back` is set where request 2 has the thread return to Published: in the drain that follows a publication, which is called a
+// sweep, and in the scan that comes of it. Their slot and link are those of the protect.
 #[derive(Clone, Copy, Debug, PartialEq, Eq)]
 pub struct Task {
     pub doing: Doing,
