@@ -4,11 +4,9 @@
 mod both;
 mod five;
 mod numbers;
-mod print;
 mod work;
 
 pub use both::{Both, called};
 pub use five::Five;
 pub use numbers::{call, raw, refused, said};
-pub use print::{number, text};
 pub use work::fits;

@@ -1,7 +1,7 @@
 // The first machine's types as plain numbers, by 01's numbering and request 7's. This table of numbers is written from the papers and
 // not read off the machine's own, since it is what the machine's is compared with.
 use entries::Phase;
-use machine::{Answer, Call, State, Verdict, Work};
+use machine::{Answer, Call, Refusal, State, Work};
 use plain::{Doing, Order, Raw, Said, Task};
 
 pub fn call(o: Order) -> Call {
@@ -20,20 +20,21 @@ fn say(number: usize, a: usize, b: usize) -> Said {
 
 // 3, what was done by request 7's number, and "the position concerned".
 fn worked(work: Work) -> Said {
-    match work {
-        Work::Publication(position) => say(3, 1, usize::from(position)),
-        Work::FailedRead(position) => say(3, 2, usize::from(position)),
-        Work::NoMatch(position) => say(3, 3, usize::from(position)),
-        Work::Match(position) => say(3, 4, usize::from(position)),
-        Work::Displacement(position) => say(3, 5, usize::from(position)),
-        Work::Found(position) => say(3, 6, usize::from(position)),
-        Work::FoundNothing(position) => say(3, 7, usize::from(position)),
-    }
+    let (done, position) = match work {
+        Work::Publication(position) => (1, position),
+        Work::FailedRead(position) => (2, position),
+        Work::NoMatch(position) => (3, position),
+        Work::Match(position) => (4, position),
+        Work::Displacement(position) => (5, position),
+        Work::Found(position) => (6, position),
+        Work::FoundNothing(position) => (7, position),
+    };
+    say(3, done, usize::from(position))
 }
 
 pub fn said(answer: Answer) -> Said {
     match answer {
-        Answer::Refused(n) => say(usize::from(n), 0, 0),
+        Answer::Refused(refusal) => say(usize::from(refusal.number()), 0, 0),
         Answer::Taken(object) => say(1, usize::from(object), 0),
         Answer::Begun(object) => say(2, usize::from(object), 0),
         Answer::Working(work) => worked(work),
@@ -49,11 +50,8 @@ pub fn said(answer: Answer) -> Said {
 }
 
 // The number of the refusal, None where the verdict is good.
-pub fn refused(v: Verdict) -> Option<usize> {
-    match v {
-        Verdict::Good => None,
-        Verdict::Refused(n) => Some(usize::from(n)),
-    }
+pub fn refused(verdict: Result<(), Refusal>) -> Option<usize> {
+    verdict.err().map(|refusal| usize::from(refusal.number()))
 }
 
 fn task(doing: Doing, slot: u8, link: u8, seen: u8, position: u8) -> Task {

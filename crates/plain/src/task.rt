@@ -11,9 +11,9 @@ pub enum Doing {
 }
 
 // One struct for all that a thread can be in the middle of, where the first machine has an enum whose cases carry these numbers: the
-// two are to differ in layout too. Fields that a task does not use are 0. `seen` is the object that Loaded, Look or Swap names. `back` is set where request 2 has
-// the thread return to Published: in the drain that follows a publication, which is called a sweep, and in the scan that comes
-// of it. Their slot and link are those of the protect.
+// two are to differ in layout too. Fields that a task does not use are 0. `seen` is the object that Loaded, Look or Swap names.
+// `back` is set where request 2 has the thread return to Published: in the drain that follows a publication, which is called a
+// sweep, and in the scan that comes of it. Their slot and link are those of the protect.
 #[derive(Clone, Copy, Debug, PartialEq, Eq)]
 pub struct Task {
     pub doing: Doing,
@@ -68,16 +68,9 @@ impl Operation {
 
     // None where the number is no operation's.
     pub fn of(number: usize) -> Option<Operation> {
-        match number {
-            1 => Some(Operation::Take),
-            2 => Some(Operation::Protect),
-            3 => Some(Operation::Swap),
-            4 => Some(Operation::Read),
-            5 => Some(Operation::Retire),
-            6 => Some(Operation::Clear),
-            7 => Some(Operation::GoOn),
-            _ => None,
-        }
+        Operation::ALL
+            .into_iter()
+            .find(|&operation| operation as usize == number)
     }
 }
 
