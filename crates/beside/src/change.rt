@@ -18,7 +18,7 @@ fn near(seed: Seed, k: usize, size: u8) -> u8 {
 fn carrying(seed: Seed, z: Sizes, object: u8) -> Phase {
     let slot = near(seed, 11, z.slots);
     let link = near(seed, 12, z.links);
-    let position = plain::byte(seed.pick(14, positions(z) + 2));
+    let position = plain::byte(seed.pick(14, positions(z).saturating_add(2)));
     match seed.pick(16, 4) {
         0 => Phase::Look { object, position },
         1 => Phase::Swap { object, position },
@@ -195,7 +195,7 @@ fn change(seed: Seed, s: &mut State) {
 pub fn judged(plan: Plan, at: usize, reached: State, totals: &mut Totals) {
     let seed = plan.seed.mix(at ^ 512);
     let mut s = reached;
-    for k in 21..=21 + seed.pick(20, 3) {
+    for k in (21..24).take(seed.pick(20, 3).saturating_add(1)) {
         change(seed.mix(k), &mut s);
     }
     let w = twin::of(&compare::raw(s));
