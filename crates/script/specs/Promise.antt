@@ -11,6 +11,8 @@ use Rattle.records.specs.declared.Record.TheVariants.{Sizes, Step}
 use Rattle.records.specs.Bytes.{sizes_bytes, step_bytes, low_first}
 use Rattle.script.specs.declared.Fault.{Fault}
 use Rattle.words.specs.Words.{word_at}
+use Rattle.script.specs.declared.Place.{Place}
+use Rattle.script.specs.Reading.{◌>>=◌, without_more, ended_of}
 use Rattle.script.specs.Lines.{Line, lined, sizes_line, step_line, line_of}
 use Rattle.script.specs.Packing.{Took, added_by, took_of, Outcome, finish, go_on, pack_from, pack_of}
 
@@ -37,6 +39,14 @@ module _ (P : Line → Type 0) (wrong_is : (fault : Fault) → P (Err fault)) wh
   by_test : (t : Bool) (yes_line no_line : Line) → P yes_line → P no_line → P (cond t yes_line no_line)
   by_test true a b p q = p
   by_test false a b p q = q
+
+  by_end : (text : List ℕ) (at : ℕ) (place : Place) (said : Line) → P said → P (ended_of text at place >>= (λ ended. said))
+  unfolding ended_of without_more
+  by_end text at place said h = after_test (ltb (word_at text at).from (word_at text at).to) _
+    where
+      after_test : (t : Bool) (first : Fault) → P (cond t (Err first) (Ok (tt {0})) >>= (λ ended. said))
+      after_test true first = wrong_is first
+      after_test false first = h
 
   by_kind : {A : Type 0} (kind : A → Record) (said : Result A Fault) → ((r : A) → P (Ok (Some (kind r)))) → P (lined kind said)
   unfolding lined
