@@ -1,12 +1,11 @@
 -- `threads_good` meets its contract: those within the sizes are in range, and those beyond them empty.
-use Rattle.std.proofs.Common.{◌≡◌, refl, Bool, ◌&&◌, min, length, take, drop, rules, tests, ◌∙◌, sym}
+use Rattle.std.proofs.Common.{◌≡◌, refl, min, length, take, drop, rules, tests, ◌∙◌, sym}
 use Rattle.std.specs.List.{list_all}
 use Rattle.std.proofs.lemmas.Iterator.{YieldsList-from_slice}
 use Rattle.std.proofs.lemmas.Iterator.Search.{all_from_yields_List}
-use Rattle.basics.specs.Under.{all_under, under_sides_least}
+use Rattle.basics.specs.Under.{under_sides_least}
 use Rattle.basics.specs.Tests.{and_not, and_then}
 use Rattle.entries.specs.declared.Thread.{Thread}
-use Rattle.entries.specs.Sizes.{positions}
 use Rattle.entries.specs.Entries.{idle_thread, thread_in_range, thread_empty, thread_good}
 use Rattle.good.proofs.good.threads_good.Goals as goal
 
