@@ -14,13 +14,13 @@ use pool::are_placed;
 pub(crate) fn parts_sound<'a>(
     z: Sizes,
     links: &'a [u8; 16],
-    threads: [Thread; 8],
-    slots: [Slot; 32],
+    threads: &'a [Thread; 8],
+    slots: &'a [Slot; 32],
     marks: &'a [bool; 240],
     tags: &'a [u32; 240],
 ) -> bool
     requires { (length links.now ≡ 16) × (length marks.now ≡ 240) × (length tags.now ≡ 240) }
-    ensures { result ≡ sound (of_parts z links.now threads slots marks.now tags.now) }
+    ensures { result ≡ sound (of_parts z links.now threads.now slots.now marks.now tags.now) }
 {
     if !z.are_good() {
         return false;
@@ -37,7 +37,7 @@ pub(crate) fn parts_sound<'a>(
     if !tags_good(z, tags) {
         return false;
     }
-    let row = row_of(z, *links, threads, slots);
+    let row = row_of(z, links, threads, slots);
     are_placed(z.objects, marks, &row)
 }
 
@@ -48,8 +48,8 @@ impl State {
         parts_sound(
             self.sizes,
             &self.links,
-            self.threads,
-            self.slots,
+            &self.threads,
+            &self.slots,
             &self.pool.marks,
             &self.tags,
         )

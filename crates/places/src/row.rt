@@ -17,8 +17,8 @@ fn lay<T: Copy, F: Fn(T) -> u8>(row: &mut [u8; 64], from: usize, entries: &[T], 
     }
 }
 
-pub fn row_of(z: Sizes, links: [u8; 16], threads: [Thread; 8], slots: [Slot; 32]) -> [u8; 64]
-    ensures { result ≡ row_of z links threads slots }
+pub fn row_of(z: Sizes, links: &[u8; 16], threads: &[Thread; 8], slots: &[Slot; 32]) -> [u8; 64]
+    ensures { result ≡ row_of z links.now threads.now slots.now }
 {
     let mut row = [0; 64];
     let some = usize::from(z.threads).min(8);

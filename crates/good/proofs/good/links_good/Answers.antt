@@ -1,5 +1,5 @@
 -- `links_good` meets its contract.
-use Rattle.std.proofs.Common.{◌≡◌, ℕ, refl, arith, get_or, ap, ◌∙◌}
+use Rattle.std.proofs.Common.{◌≡◌, refl, arith, get_or}
 use Rattle.basics.specs.Under.{all_under, under_next}
 use Rattle.entries.specs.Entries.{link_good}
 use Rattle.good.proofs.good.links_good.Goals as goal

@@ -1,5 +1,5 @@
 -- `tags_good` meets its contract.
-use Rattle.std.proofs.Common.{◌≡◌, ◌-◌, ℕ, List, refl, eqb, min, length, take, drop, rules, arith, ◌∙◌, sym, ap, take_all}
+use Rattle.std.proofs.Common.{◌≡◌, ◌-◌, ℕ, refl, eqb, min, length, take, drop, rules, arith, ◌∙◌, ap, take_all}
 use Rattle.std.proofs.lemmas.List.{take_rest}
 use Rattle.std.specs.List.{list_all}
 use Rattle.std.proofs.lemmas.List.Folds.{list_all_more}

@@ -85,7 +85,7 @@ returns-then-not-tags_good c = rw (sym c.tags_good.ensures ∙ c.if-not-tags_goo
 pub returns : goal.returns
 returns c =
     let a = c.args in
-    let s = of_parts a.z a.links.now a.threads a.slots a.marks.now a.tags.now in
+    let s = of_parts a.z a.links.now a.threads.now a.slots.now a.marks.now a.tags.now in
     c.are_placed.ensures ∙
     rw c.row_of-row.ensures
     (decides s
