@@ -10,13 +10,10 @@ use twin::{Refusal, Twin};
 
 // The five places sum to N; those that wait are as many as the history says, and at most T × (H + 1).
 fn sums(f: Five, w: &Twin, waiting: usize) -> bool {
-    let in_use = f
-        .links
-        .checked_add(f.hands)
-        .and_then(|n| n.checked_add(f.free));
-    f.handovers.checked_add(f.carried) == Some(waiting)
+    let places = [f.free, f.links, f.hands, f.handovers, f.carried];
+    places.into_iter().fold(0, usize::saturating_add) == w.objects
+        && f.handovers.saturating_add(f.carried) == waiting
         && waiting <= w.bound()
-        && in_use == w.objects.checked_sub(waiting)
 }
 
 // The states of both machines after a call, and what the store has to say of them.

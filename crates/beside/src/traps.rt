@@ -9,6 +9,7 @@ use twin::{Trap, Twin};
 
 // A trap and how it is called, and whether something is lost by it: nothing is by an early drain or sweep, which only leaves an
 // object behind, nor by a protect that is not ended. So those three are not held to the store.
+#[derive(Clone, Copy, Debug, PartialEq, Eq)]
 struct Told {
     trap: Trap,
     name: &'static str,
@@ -105,12 +106,7 @@ fn loss(plan: Plan, trap: Trap) -> Option<usize> {
 fn first<T, F: Fn(usize) -> Option<T>>(shown: F) -> Option<(usize, T)>
     requires { F.IsAlwaysCallable shown }
 {
-    for number in 0..SCHEDULES {
-        if let Some(found) = shown(number) {
-            return Some((number, found));
-        }
-    }
-    None
+    (0..SCHEDULES).find_map(|number| shown(number).map(|found| (number, found)))
 }
 
 // The sizes of a schedule and its calls up to one, drawn for a twin.

@@ -2,8 +2,7 @@
 use machine::State;
 use plain::{Operation, Order};
 
-// The lines, by their numbers. They are the first machine's refusals, and an enum of their own: its numbers would be held to
-// themselves.
+// The lines, by their numbers. An enum of its own, and not the first machine's, whose numbers would else be held to themselves.
 #[derive(Clone, Copy, Debug, PartialEq, Eq)]
 pub enum Line {
     Unsound = 19,
