@@ -1,4 +1,5 @@
-// A run after its first record.
+// A run after its first record. The loop over it stays with each caller, who does another thing at each step: clauses of a loop that takes a
+// closure would have to carry the page's room, or the state told, from step to step, and would be no plainer than three short loops.
 ghost use Rattle.std.specs.Prelude.{◌≡◌};
 ghost use Rattle.schedule.specs.Said.{call_of};
 ghost use Rattle.schedule.specs.Going.{next_of};

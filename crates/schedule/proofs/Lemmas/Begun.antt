@@ -28,17 +28,20 @@ Fits (run z calls ending) by rest =
     (found_of rest ≡ record { calls = calls; ending = ending; left = after (length calls) rest })
 Fits (no_run number) by rest = (why : Stop) × ((by ≡ unopened why) × (stop_number why ≡ number))
 
+fits_none : (why : Stop) (rest : List ℕ) → Fits (no_run (stop_number why)) (unopened why) rest
+fits_none why rest = (why, (refl, refl))
+
 sized_fits : (r : SizesRecord) (rest : List ℕ) → Fits (sized (sizes_of r) rest) (opened_by (Ok r)) rest
 unfolding sized start_of opened unopened opened_by verdict_of found_in stop_number number_of
 sized_fits r rest =
-    by_test (Fits (sized (sizes_of r) rest) (opened_by (Ok r)) rest) (in_range (sizes_of r)) (λ good. rw good (refl, asked rest)) (λ bad. rw bad (Refused SizeOutOfRange, (refl, refl)))
+    by_test (Fits (sized (sizes_of r) rest) (opened_by (Ok r)) rest) (in_range (sizes_of r)) (λ good. rw good (refl, asked rest)) (λ bad. rw bad (fits_none (Refused SizeOutOfRange) rest))
 
 begun_fits : (found : Read) (rest : List ℕ) → Fits (begun found rest) (opened_by (first_at found)) rest
 unfolding begun first_at opened_by stop_number
 begun_fits (Ok (Some (record_of.Sizes r))) rest = sized_fits r rest
-begun_fits (Ok (Some (record_of.Step r))) rest = (SizesNotFirst, (refl, refl))
-begun_fits (Ok None) rest = (SizesNotFirst, (refl, refl))
-begun_fits (Err why) rest = (Malformed why, (refl, refl))
+begun_fits (Ok (Some (record_of.Step r))) rest = fits_none SizesNotFirst rest
+begun_fits (Ok None) rest = fits_none SizesNotFirst rest
+begun_fits (Err why) rest = fits_none (Malformed why) rest
 
 fits : (input : List ℕ) (said : Input) → input_of input ≡ said → Fits said (opened_of input) (rest_of input)
 unfolding input_of opened_of first_of
