@@ -162,8 +162,8 @@ impl State {
         }
     }
 
-    #[tactic(auto, unfolding(crate::specs::GoOn::go_on_of, crate::specs::GoOn::go_on_from, crate::specs::GoOn::sweep_of, crate::specs::GoOn::drain_of))]
     // An idle thread has nothing to go on with; refusal 27 comes before this case is reached.
+    #[tactic(auto, unfolding(crate::specs::GoOn::go_on_of, crate::specs::GoOn::go_on_from, crate::specs::GoOn::sweep_of, crate::specs::GoOn::drain_of))]
     pub(crate) fn go_on(self, caller: Caller) -> Outcome
         requires { (sound self ≡ true) × (caller.number < self.sizes.threads) }
         ensures { result ≡ go_on_of self caller.number }

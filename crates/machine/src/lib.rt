@@ -15,7 +15,6 @@ mod step;
 
 use entries::{Sizes, Slot, Thread};
 pub use fresh::start;
-pub use operation::Operation;
 use pool::Pool;
 pub use refusal::Refusal;
 
@@ -79,7 +78,7 @@ pub struct Started {
     pub verdict: Result<(), Refusal>,
 }
 
-#[derive(Clone, Copy, Debug, PartialEq, Eq)]
+#[derive(Clone, Copy, Debug, Default, PartialEq, Eq)]
 pub struct Places {
     pub free: u8,
     pub links: u8,
@@ -88,7 +87,7 @@ pub struct Places {
     pub carried: u8,
 }
 
-#[derive(Clone, Copy)]
+#[derive(Clone, Copy, Debug, PartialEq, Eq)]
 pub struct Counted {
     pub places: Places,
     pub verdict: Result<(), Refusal>,

@@ -1,4 +1,6 @@
 // The seven operations, and the column "Uses".
+#![tactic(auto, unfolding(crate::specs::Operations::operation_number, crate::specs::Refusals::uses_slot, crate::specs::Refusals::uses_link, crate::specs::Refusals::uses_tag))]
+
 ghost use Rattle.std.specs.Prelude.{◌≡◌};
 ghost use Rattle.machine.specs.Operations.{operation_number, Names};
 ghost use Rattle.machine.specs.Refusals.{uses_slot, uses_link, uses_tag};
@@ -6,7 +8,7 @@ ghost use Rattle.machine.specs.Refusals.{uses_slot, uses_link, uses_tag};
 use crate::Refusal;
 
 #[derive(Clone, Copy, Debug, PartialEq, Eq)]
-pub enum Operation {
+pub(crate) enum Operation {
     Take = 1,
     Protect,
     Swap,
@@ -21,7 +23,6 @@ impl TryFrom<u8> for Operation {
 
     ghost try_from_gives = { Names };
 
-    #[tactic(auto, unfolding(crate::specs::Operations::operation_number))]
     fn try_from(number: u8) -> Result<Self, Refusal> {
         match number {
             1 => Ok(Operation::Take),
@@ -37,7 +38,6 @@ impl TryFrom<u8> for Operation {
 }
 
 impl Operation {
-    #[tactic(auto, unfolding(crate::specs::Operations::operation_number, crate::specs::Refusals::uses_slot))]
     pub(crate) fn uses_slot(self) -> bool
         ensures { result ≡ uses_slot (operation_number self) }
     {
@@ -47,14 +47,12 @@ impl Operation {
         )
     }
 
-    #[tactic(auto, unfolding(crate::specs::Operations::operation_number, crate::specs::Refusals::uses_link))]
     pub(crate) fn uses_link(self) -> bool
         ensures { result ≡ uses_link (operation_number self) }
     {
         matches!(self, Operation::Protect | Operation::Swap)
     }
 
-    #[tactic(auto, unfolding(crate::specs::Operations::operation_number, crate::specs::Refusals::uses_tag))]
     pub(crate) fn uses_tag(self) -> bool
         ensures { result ≡ uses_tag (operation_number self) }
     {

@@ -1,4 +1,6 @@
 // "The first that applies is given, in this order, and never otherwise."
+#![tactic(auto, unfolding(basics::specs::Rows::first_of, crate::specs::Operations::operation_number, crate::specs::Refusals::field_rows, crate::specs::Refusals::thread_rows, crate::specs::Refusals::object_rows))]
+
 ghost use Rattle.std.specs.Prelude.{◌≡◌, true, ◌+◌, ◌*◌, ◌<◌, get_or};
 ghost use Rattle.basics.specs.Rows.{first_of};
 ghost use Rattle.entries.specs.Entries.{empty_slot};
@@ -6,13 +8,13 @@ ghost use Rattle.machine.specs.Operations.{operation_number};
 ghost use Rattle.machine.specs.Admits.{Refuses, Admits};
 ghost use Rattle.machine.specs.Refusals.{reads_slot, field_rows, thread_rows, object_rows, refusal_of};
 
+use crate::operation::Operation;
 use crate::request::Request;
-use crate::{Call, Operation, Refusal, State};
+use crate::{Call, Refusal, State};
 use entries::{Sizes, Slot, Thread};
 use pool::Pool;
 
 // The lines that look at the call's fields and the sizes alone.
-#[tactic(auto, unfolding(crate::specs::Refusals::field_rows, basics::specs::Rows::first_of))]
 fn by_fields(sizes: Sizes, call: Call) -> Result<Request, Refusal>
     ensures { Admits call (first_of (field_rows sizes call)) result }
 {
@@ -34,7 +36,6 @@ fn by_fields(sizes: Sizes, call: Call) -> Result<Request, Refusal>
 }
 
 // The lines that look at what the thread is in the middle of and at its hand.
-#[tactic(auto, unfolding(crate::specs::Operations::operation_number, crate::specs::Refusals::thread_rows, basics::specs::Rows::first_of))]
 fn by_thread(me: Thread, operation: Operation) -> Result<(), Refusal>
     ensures { Refuses (first_of (thread_rows me (operation_number operation))) result }
 {
@@ -50,12 +51,12 @@ fn by_thread(me: Thread, operation: Operation) -> Result<(), Refusal>
 }
 
 // The lines that look at the slot that the call names and at what is free; only a take looks for a free object.
-#[tactic(auto, unfolding(crate::specs::Operations::operation_number, crate::specs::Refusals::object_rows, basics::specs::Rows::first_of))]
 fn by_objects(sizes: Sizes, slots: [Slot; 32], pool: Pool, request: Request) -> Result<(), Refusal>
     requires { reads_slot request.call ≡ true → request.call.thread * sizes.slots + request.call.slot < 32 }
     ensures { Refuses (first_of (object_rows (get_or slots (request.call.thread * sizes.slots + request.call.slot) empty_slot) pool request.call)) result }
 {
-    if request.unprotected(sizes, slots) {
+    let Call { thread, slot, .. } = request.call;
+    if request.reads_slot() && !slots[usize::from(sizes.position(thread, slot))].mark {
         return Err(Refusal::NotProtected);
     }
     if request.operation == Operation::Take && pool.next().is_none() {
@@ -65,8 +66,8 @@ fn by_objects(sizes: Sizes, slots: [Slot; 32], pool: Pool, request: Request) -> 
 }
 
 impl State {
-    #[tactic(auto, using(crate::specs::Accepted::refused_unsound, crate::specs::Accepted::in_turn, crate::specs::Accepted::small, crate::specs::Accepted::named_inside))]
     // The first line that applies, or the request where none does.
+    #[tactic(auto, using(crate::specs::Accepted::refused_unsound, crate::specs::Accepted::in_turn, crate::specs::Accepted::small, crate::specs::Accepted::named_inside))]
     pub(crate) fn admit(self, call: Call) -> Result<Request, Refusal>
         ensures { Admits call (refusal_of self call) result }
     {

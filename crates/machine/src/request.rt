@@ -1,11 +1,12 @@
 // A call with its operation, and what the table of refusals asks of its fields.
-ghost use Rattle.std.specs.Prelude.{◌≡◌, true, not, ◌&&◌, ◌+◌, ◌*◌, ◌<◌, get_or};
-ghost use Rattle.entries.specs.Entries.{empty_slot};
+#![tactic(auto, unfolding(crate::specs::Operations::operation_number, crate::specs::Refusals::unused_not_zero, crate::specs::Refusals::without_slot, crate::specs::Refusals::reads_slot))]
+
+ghost use Rattle.std.specs.Prelude.{◌≡◌};
 ghost use Rattle.machine.specs.Operations.{operation_number};
 ghost use Rattle.machine.specs.Refusals.{unused_not_zero, without_slot, reads_slot};
 
-use crate::{Call, Operation};
-use entries::{Sizes, Slot};
+use crate::Call;
+use crate::operation::Operation;
 
 // A call whose operation is one of the seven.
 #[derive(Clone, Copy)]
@@ -16,7 +17,6 @@ pub(crate) struct Request {
 }
 
 impl Request {
-    #[tactic(auto, unfolding(crate::specs::Refusals::unused_not_zero))]
     pub(crate) fn unused_not_zero(self) -> bool
         ensures { result ≡ unused_not_zero self.call }
     {
@@ -26,7 +26,6 @@ impl Request {
             || (!operation.uses_tag() && call.tag != 0)
     }
 
-    #[tactic(auto, unfolding(crate::specs::Refusals::without_slot, crate::specs::Operations::operation_number))]
     pub(crate) fn without_slot(self) -> bool
         ensures { result ≡ without_slot self.call }
     {
@@ -34,20 +33,10 @@ impl Request {
     }
 
     // Whether the call goes by the object of its slot: "swap with a slot, or read"
-    #[tactic(auto, unfolding(crate::specs::Refusals::reads_slot, crate::specs::Operations::operation_number))]
-    fn reads_slot(self) -> bool
+    pub(crate) fn reads_slot(self) -> bool
         ensures { result ≡ reads_slot self.call }
     {
         self.operation == Operation::Read
             || (self.operation == Operation::Swap && !self.without_slot())
-    }
-
-    // "swap with a slot, or read: slot not protected"
-    pub(crate) fn unprotected(self, sizes: Sizes, slots: [Slot; 32]) -> bool
-        requires { reads_slot self.call ≡ true → self.call.thread * sizes.slots + self.call.slot < 32 }
-        ensures { result ≡ (reads_slot self.call && not (get_or slots (self.call.thread * sizes.slots + self.call.slot) empty_slot).mark) }
-    {
-        let Call { thread, slot, .. } = self.call;
-        self.reads_slot() && !slots[usize::from(sizes.position(thread, slot))].mark
     }
 }

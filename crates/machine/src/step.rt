@@ -4,8 +4,9 @@ ghost use Rattle.machine.specs.Refusals.{refusal_of};
 ghost use Rattle.machine.specs.Step.{done_of, step_of};
 
 use crate::caller::Caller;
+use crate::operation::Operation;
 use crate::request::Request;
-use crate::{Answer, Call, Operation, Outcome, State};
+use crate::{Answer, Call, Outcome, State};
 
 impl State {
     // The effect of a call that is not refused.
@@ -33,8 +34,8 @@ impl State {
         }
     }
 
-    #[tactic(auto, unfolding(crate::specs::Step::step_of, crate::specs::Step::refused_or))]
     // "Each call hands the next state back."
+    #[tactic(auto, unfolding(crate::specs::Step::step_of, crate::specs::Step::refused_or))]
     pub fn step(self, call: Call) -> Outcome
         ensures { result ≡ step_of self call }
     {
