@@ -1,7 +1,7 @@
 -- What holds of every table of lines.
 use Rattle.std.specs.Prelude.{ℕ, ◌≤◌, ◌≡◌, refl, Bool, true, false, cond, not, List, [], ◌∷◌, ◌++◌, leb, eqb, Option, Some, None, MatchOption}
 use Rattle.std.specs.Option.{option_or}
-use Rattle.std.proofs.Common.{sym, subst, ⊎_elim, leb-true}
+use Rattle.std.proofs.Common.{sym, subst, ◌∙◌, ⊎_elim, leb-true}
 use Rattle.std.proofs.lemmas.Bool.{eqb-false, not-true}
 use Rattle.basics.specs.Tests.{tested, and_l, and_r}
 use Rattle.basics.specs.Rows.{FirstIs, NoneApplies, Row, all_from, first_of, here, later, none, pass, without}
@@ -55,6 +55,12 @@ module _ {A : Type 0} where
       (λ (yes' : row.applies ≡ true). rw yes')
       (λ (no' : row.applies ≡ false). rw no' (first_append rows back))
       (tested row.applies)
+
+  pub stops : (front back : List (Row A)) {a : A} → first_of front ≡ Some a → first_of (front ++ back) ≡ Some a
+  stops front back e = first_append front back ∙ rw e
+
+  pub goes_on : {front : List (Row A)} (back : List (Row A)) → NoneApplies front → first_of (front ++ back) ≡ first_of back
+  goes_on {front} back all = first_append front back ∙ rw (none_is all)
 
   -- both tables are passed
   pub none_split : (front : List (Row A)) {back : List (Row A)} → NoneApplies (front ++ back) → NoneApplies front × NoneApplies back
