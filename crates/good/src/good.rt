@@ -55,16 +55,16 @@ pub fn links_good(z: Sizes, links: &[u8; 16]) -> bool
 }
 
 // Those within the sizes, then those beyond them; the first that is wrong decides.
-pub fn threads_good(z: Sizes, threads: &[Thread; 8]) -> bool
-    ensures { result ≡ all_under 8 (λ t. thread_good z t (get_or threads.now t idle_thread)) }
+pub fn threads_good(z: Sizes, threads: [Thread; 8]) -> bool
+    ensures { result ≡ all_under 8 (λ t. thread_good z t (get_or threads t idle_thread)) }
 {
     let (within, beyond) = threads.split_at(usize::from(z.threads).min(8));
     within.iter().all(|&thread| thread_in_range(z, thread))
         && beyond.iter().all(|&thread| thread_empty(thread))
 }
 
-pub fn slots_good(z: Sizes, slots: &[Slot; 32]) -> bool
-    ensures { result ≡ all_under 32 (λ p. slot_good z p (get_or slots.now p empty_slot)) }
+pub fn slots_good(z: Sizes, slots: [Slot; 32]) -> bool
+    ensures { result ≡ all_under 32 (λ p. slot_good z p (get_or slots p empty_slot)) }
 {
     let (within, beyond) = slots.split_at(z.positions().min(32));
     within.iter().all(|&slot| slot_in_range(z.objects, slot))

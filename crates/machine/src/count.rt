@@ -15,8 +15,8 @@ impl State {
         if !parts_sound(
             self.sizes,
             &self.links,
-            &self.threads,
-            &self.slots,
+            self.threads,
+            self.slots,
             &self.pool.marks,
             &self.tags,
         ) {

@@ -1,5 +1,5 @@
 // The soundness check, for any state.
-ghost use Rattle.std.specs.Prelude.{◌≡◌, length};
+ghost use Rattle.std.specs.Prelude.{◌≡◌};
 ghost use Rattle.machine.specs.Parts.{of_parts};
 ghost use Rattle.machine.specs.Soundness.{sound};
 
@@ -11,16 +11,15 @@ use pool::are_placed;
 
 // The check of a state's parts. What has an entry for each object is lent, so that none of it is copied. The ranges come first: entries
 // that are good hold nothing beyond the sizes, so only what is within them is laid out for the walk.
-pub(crate) fn parts_sound<'a>(
+pub(crate) fn parts_sound(
     z: Sizes,
-    links: &'a [u8; 16],
-    threads: &'a [Thread; 8],
-    slots: &'a [Slot; 32],
-    marks: &'a [bool; 240],
-    tags: &'a [u32; 240],
+    links: &[u8; 16],
+    threads: [Thread; 8],
+    slots: [Slot; 32],
+    marks: &[bool; 240],
+    tags: &[u32; 240],
 ) -> bool
-    requires { (length links.now ≡ 16) × (length marks.now ≡ 240) × (length tags.now ≡ 240) }
-    ensures { result ≡ sound (of_parts z links.now threads.now slots.now marks.now tags.now) }
+    ensures { result ≡ sound (of_parts z links.now threads slots marks.now tags.now) }
 {
     if !z.are_good() {
         return false;
@@ -37,7 +36,7 @@ pub(crate) fn parts_sound<'a>(
     if !tags_good(z, tags) {
         return false;
     }
-    let row = row_of(z, links, threads, slots);
+    let row = row_of(z, *links, threads, slots);
     are_placed(z.objects, marks, &row)
 }
 
@@ -48,8 +47,8 @@ impl State {
         parts_sound(
             self.sizes,
             &self.links,
-            &self.threads,
-            &self.slots,
+            self.threads,
+            self.slots,
             &self.pool.marks,
             &self.tags,
         )

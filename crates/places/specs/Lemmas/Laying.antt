@@ -1,12 +1,12 @@
 -- Numbers laid into a row from a place on, one after the other, and the four kinds of places one after the other.
 use Prim.Native.Nat.{ℕ, zero, suc, ◌+◌, ◌-◌, ◌<◌, ◌≤◌, min}
 use native.Mathlib.Omega.{arith}
-use Rattle.std.proofs.Common.{add-one, sym, ap₂, ◌∙◌, length-take, take_at, take_all}
+use Rattle.std.proofs.Common.{add-one, sym, ap₂, ◌∙◌, length-take, take_at}
 use Rattle.std.specs.Prelude.{◌≡◌, set, take, drop, eqb}
 use Rattle.std.proofs.Math.Path.{refl, ap}
 use mathlib.Core.List.{List, [], map, ◌++◌, append-nil, append_assoc}
 use Rattle.std.proofs.Math.ListN.{length, get_or, replicate, length-append, get_or-map}
-use Rattle.std.proofs.lemmas.List.{length-map, length-replicate, length-take-le, take-map}
+use Rattle.std.proofs.lemmas.List.{length-map, length-replicate}
 use Rattle.std.proofs.Math.Seq.{paste, paste-suc, drop-append-add}
 use Rattle.basics.specs.Counts.{count_under, occurrences, occurrences_append, occurrences_within, occurrences_map, none_in_zeros, count_under_list}
 use Rattle.basics.specs.Lists.{Each}
@@ -26,16 +26,6 @@ laid_more before at s i so_far is room inside =
     ap₂ (λ (row : List ℕ) (number : ℕ). set row (at + i) number) so_far is ∙
     paste-suc before at s i 0 room inside ∙
     ap (paste before at s) (sym (add-one i))
-
--- what is read of the first n alone
-pub front_laid : {A : Type 0} (f : A → ℕ) (before : List ℕ) (at : ℕ) (xs : List A) (n : ℕ) {now : List ℕ} → n ≤ length xs
-    → now ≡ paste before at (map f (take n xs)) (length (take n xs)) → now ≡ paste before at (map f xs) n
-front_laid f before at xs n there is =
-    let long = length-take-le n xs there in
-    let front : take n (map f (take n xs)) ≡ take n (map f xs) =
-    take_all n (map f (take n xs)) (omega (arith, length-map (take n xs) f)) ∙ sym (take-map f n xs)
-    in
-    is ∙ ap (paste before at (map f (take n xs))) long ∙ ap (λ (l : List ℕ). take at before ++ l ++ drop (at + n) before) front
 
 length_padded : (n room : ℕ) (s : List ℕ) → n ≤ room → n ≤ length s → length (padded n room s) ≡ room
 unfolding padded

@@ -17,15 +17,15 @@ returns-then-all c =
     let m = c.min.result in
     let within = (λ (slot : Slot). slot_in_range a.z.objects slot) in
     let beyond = (λ (slot : Slot). slot_empty slot) in
-    let long : length a.slots.now ≡ 32 = search rules in
+    let long : length a.slots ≡ 32 = search rules in
     let end : m ≡ min (positions a.z) 32 = search rules in
-    let first : c.all.result ≡ list_all within (take m a.slots.now) =
-    all_from_yields_List within _ _ c.all.result c.all.ensures.ran (YieldsList-from_slice (take m a.slots.now) cc) (λ x b q k. search (rules, tests))
+    let first : c.all.result ≡ list_all within (take m a.slots) =
+    all_from_yields_List within _ _ c.all.result c.all.ensures.ran (YieldsList-from_slice (take m a.slots) cc) (λ x b q k. search (rules, tests))
     in
-    let second : c.all-then-all.result ≡ list_all beyond (drop m a.slots.now) =
-    all_from_yields_List beyond _ _ c.all-then-all.result c.all-then-all.ensures.ran (YieldsList-from_slice (drop m a.slots.now) cc) (λ x b q k. search (rules, tests))
+    let second : c.all-then-all.result ≡ list_all beyond (drop m a.slots) =
+    all_from_yields_List beyond _ _ c.all-then-all.result c.all-then-all.ensures.ran (YieldsList-from_slice (drop m a.slots) cc) (λ x b q k. search (rules, tests))
     in
-    second ∙ sym (and_then (sym first ∙ c.if-all.true) refl) ∙ rw end (under_sides_least within beyond empty_slot (positions a.z) 32 a.slots.now long)
+    second ∙ sym (and_then (sym first ∙ c.if-all.true) refl) ∙ rw end (under_sides_least within beyond empty_slot (positions a.z) 32 a.slots long)
 
 pub returns-else-all : goal.returns-else-all
 unfolding slot_good
@@ -34,10 +34,10 @@ returns-else-all c =
     let m = c.min.result in
     let within = (λ (slot : Slot). slot_in_range a.z.objects slot) in
     let beyond = (λ (slot : Slot). slot_empty slot) in
-    let long : length a.slots.now ≡ 32 = search rules in
+    let long : length a.slots ≡ 32 = search rules in
     let end : m ≡ min (positions a.z) 32 = search rules in
-    let first : c.all.result ≡ list_all within (take m a.slots.now) =
-    all_from_yields_List within _ _ c.all.result c.all.ensures.ran (YieldsList-from_slice (take m a.slots.now) cc) (λ x b q k. search (rules, tests))
+    let first : c.all.result ≡ list_all within (take m a.slots) =
+    all_from_yields_List within _ _ c.all.result c.all.ensures.ran (YieldsList-from_slice (take m a.slots) cc) (λ x b q k. search (rules, tests))
     in
-    c.if-all.false ∙ sym (and_not (list_all beyond (drop m a.slots.now)) (sym first ∙ c.if-all.false)) ∙
-    rw end (under_sides_least within beyond empty_slot (positions a.z) 32 a.slots.now long)
+    c.if-all.false ∙ sym (and_not (list_all beyond (drop m a.slots)) (sym first ∙ c.if-all.false)) ∙
+    rw end (under_sides_least within beyond empty_slot (positions a.z) 32 a.slots long)

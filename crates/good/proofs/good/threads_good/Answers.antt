@@ -16,15 +16,15 @@ returns-then-all c =
     let m = c.min.result in
     let within = (λ (thread : Thread). thread_in_range a.z thread) in
     let beyond = (λ (thread : Thread). thread_empty thread) in
-    let long : length a.threads.now ≡ 8 = search rules in
+    let long : length a.threads ≡ 8 = search rules in
     let end : m ≡ min a.z.threads 8 = search rules in
-    let first : c.all.result ≡ list_all within (take m a.threads.now) =
-    all_from_yields_List within _ _ c.all.result c.all.ensures.ran (YieldsList-from_slice (take m a.threads.now) cc) (λ x b q k. search (rules, tests))
+    let first : c.all.result ≡ list_all within (take m a.threads) =
+    all_from_yields_List within _ _ c.all.result c.all.ensures.ran (YieldsList-from_slice (take m a.threads) cc) (λ x b q k. search (rules, tests))
     in
-    let second : c.all-then-all.result ≡ list_all beyond (drop m a.threads.now) =
-    all_from_yields_List beyond _ _ c.all-then-all.result c.all-then-all.ensures.ran (YieldsList-from_slice (drop m a.threads.now) cc) (λ x b q k. search (rules, tests))
+    let second : c.all-then-all.result ≡ list_all beyond (drop m a.threads) =
+    all_from_yields_List beyond _ _ c.all-then-all.result c.all-then-all.ensures.ran (YieldsList-from_slice (drop m a.threads) cc) (λ x b q k. search (rules, tests))
     in
-    second ∙ sym (and_then (sym first ∙ c.if-all.true) refl) ∙ rw end (under_sides_least within beyond idle_thread a.z.threads 8 a.threads.now long)
+    second ∙ sym (and_then (sym first ∙ c.if-all.true) refl) ∙ rw end (under_sides_least within beyond idle_thread a.z.threads 8 a.threads long)
 
 pub returns-else-all : goal.returns-else-all
 unfolding thread_good
@@ -33,10 +33,10 @@ returns-else-all c =
     let m = c.min.result in
     let within = (λ (thread : Thread). thread_in_range a.z thread) in
     let beyond = (λ (thread : Thread). thread_empty thread) in
-    let long : length a.threads.now ≡ 8 = search rules in
+    let long : length a.threads ≡ 8 = search rules in
     let end : m ≡ min a.z.threads 8 = search rules in
-    let first : c.all.result ≡ list_all within (take m a.threads.now) =
-    all_from_yields_List within _ _ c.all.result c.all.ensures.ran (YieldsList-from_slice (take m a.threads.now) cc) (λ x b q k. search (rules, tests))
+    let first : c.all.result ≡ list_all within (take m a.threads) =
+    all_from_yields_List within _ _ c.all.result c.all.ensures.ran (YieldsList-from_slice (take m a.threads) cc) (λ x b q k. search (rules, tests))
     in
-    c.if-all.false ∙ sym (and_not (list_all beyond (drop m a.threads.now)) (sym first ∙ c.if-all.false)) ∙
-    rw end (under_sides_least within beyond idle_thread a.z.threads 8 a.threads.now long)
+    c.if-all.false ∙ sym (and_not (list_all beyond (drop m a.threads)) (sym first ∙ c.if-all.false)) ∙
+    rw end (under_sides_least within beyond idle_thread a.z.threads 8 a.threads long)

@@ -85,16 +85,16 @@ returns-then-not-tags_good c = rw (sym c.tags_good.ensures ∙ c.if-not-tags_goo
 pub returns : goal.returns
 returns c =
     let a = c.args in
-    let s = of_parts a.z a.links.now a.threads.now a.slots.now a.marks.now a.tags.now in
+    let s = of_parts a.z a.links.now a.threads a.slots a.marks.now a.tags.now in
     c.are_placed.ensures ∙
     rw c.row_of-row.ensures
     (decides s
     (record {
-      shape = record { links = c.requires.0; threads = search rules; slots = search rules; tags = c.requires.2 };
+      shape = record { links = search rules; threads = search rules; slots = search rules; tags = search rules };
       sizes = sym c.are_good.ensures ∙ c.if-not-are_good.false;
       links = sym c.links_good.ensures ∙ c.if-not-links_good.false;
       threads = sym c.threads_good.ensures ∙ c.if-not-threads_good.false;
       slots = sym c.slots_good.ensures ∙ c.if-not-slots_good.false;
     })
     (sym c.tags_good.ensures ∙ c.if-not-tags_good.false)
-    c.requires.1)
+    (search rules))

@@ -6,4 +6,4 @@ use Rattle.places.proofs.row.lay.Given as goal
 abbrev pub invariant-loop-i : goal.invariant-loop-i
 invariant-loop-i g l =
     goal.F-IsAlwaysCallable g l.read
-    × ((number : _ → ℕ) → ((x : _) (r : ℕ) → goal.F-post g l.read x r → r ≡ number x) → l.row ≡ paste l.initial.row l.from (map number l.entries) l.i)
+    × ((number : _ → ℕ) → ((x : _) (r : ℕ) → goal.F-post g l.read x r → r ≡ number x) → l.row ≡ paste l.initial.row l.from (map number l.fn.entries) l.i)
