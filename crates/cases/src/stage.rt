@@ -102,37 +102,28 @@ impl Stage {
     }
 
     pub fn link(mut self, l: usize, object: usize) -> Stage {
-        if let Some(link) = self.state.links.get_mut(l) {
-            *link = plain::byte(object);
-        }
+        plain::put(&mut self.state.links, l, plain::byte(object));
         self
     }
 
     pub fn thread(mut self, t: usize, hand: usize, phase: Phase) -> Stage {
-        if let Some(thread) = self.state.threads.get_mut(t) {
-            *thread = Thread {
-                hand: plain::byte(hand),
-                phase,
-            };
-        }
+        let hand = plain::byte(hand);
+        plain::put(&mut self.state.threads, t, Thread { hand, phase });
         self
     }
 
     pub fn slot(mut self, p: usize, hazard: usize, mark: bool, handover: usize) -> Stage {
-        if let Some(slot) = self.state.slots.get_mut(p) {
-            *slot = Slot {
-                hazard: plain::byte(hazard),
-                mark,
-                handover: plain::byte(handover),
-            };
-        }
+        let slot = Slot {
+            hazard: plain::byte(hazard),
+            mark,
+            handover: plain::byte(handover),
+        };
+        plain::put(&mut self.state.slots, p, slot);
         self
     }
 
     pub fn tag(mut self, object: usize) -> Stage {
-        if let Some(tag) = self.state.tags.get_mut(object.saturating_sub(1)) {
-            *tag = 1;
-        }
+        plain::put(&mut self.state.tags, object.saturating_sub(1), 1);
         self
     }
 
