@@ -47,7 +47,8 @@ def twins(root):
     """Functions whose bodies differ in names and numbers alone, of four lines or more."""
     same = {}
     for path, name, body in blocks(root, r"(?:extern \"C\" )?fn"):
-        inside = body[body.index("\n" + re.match(" *", body)[0] + "{") + 1:] if "\n{" in body or "\n    {" in body else body[body.index("{"):]
+        alone = re.search(r"^ *\{$", body, re.M)
+        inside = body[alone.start() if alone else body.index("{"):]
         shape = re.sub(r"//.*", "", inside)
         shape = re.sub(r"\b(?!(?:let|mut|if|else|while|for|in|return|match|as|true|false|self)\b)[A-Za-z_]\w*", "x", shape)
         shape = re.sub(r"x(::x)+", "x", re.sub(r"b?\"[^\"]*\"", "x", re.sub(r"\b\d+\b", "0", shape)))
