@@ -7,7 +7,6 @@ mod building;
 mod showing;
 
 use building::{put_byte, put_long, put_sizes, put_take, sizes};
-use records::SizesRecord;
 use showing::show;
 
 // One to nine bytes.
@@ -18,22 +17,28 @@ fn parts_of_a_record(rt: &impl Print, space: &[u8]) {
 }
 
 // The input ends with its sizes or after a step, or within the record after them.
-fn ends_early(rt: &impl Print, space: &[u8]) {
-    show(rt, "sizes alone", space, 10);
-    show(rt, "sizes and one byte", space, 11);
-    show(rt, "sizes and nine bytes", space, 19);
-    show(rt, "one step", space, 20);
-    show(rt, "one step and nine bytes", space, 29);
-}
+const EARLY: [(&str, usize); 5] = [
+    ("sizes alone", 10),
+    ("sizes and one byte", 11),
+    ("sizes and nine bytes", 19),
+    ("one step", 20),
+    ("one step and nine bytes", 29),
+];
 
 // The most steps, and one more. What comes after the 6,001st is never looked at: 20 bytes with no mark, or a part of them.
-fn ends_late(rt: &impl Print, space: &[u8]) {
-    show(rt, "5,999 steps", space, 60000);
-    show(rt, "6,000 steps", space, 60010);
-    show(rt, "6,000 steps and five bytes", space, 60015);
-    show(rt, "6,001 steps", space, 60020);
-    show(rt, "6,001 steps and five bytes", space, 60025);
-    show(rt, "6,001 steps and no marks", space, 60040);
+const LATE: [(&str, usize); 6] = [
+    ("5,999 steps", 60000),
+    ("6,000 steps", 60010),
+    ("6,000 steps and five bytes", 60015),
+    ("6,001 steps", 60020),
+    ("6,001 steps and five bytes", 60025),
+    ("6,001 steps and no marks", 60040),
+];
+
+fn ends(rt: &impl Print, space: &[u8], cases: &[(&str, usize)]) {
+    for &(name, size) in cases {
+        show(rt, name, space, size);
+    }
 }
 
 // Another record after 6,000 steps: its own 41 or 44 comes before 42 and 43.
@@ -68,32 +73,27 @@ fn other_record_first(rt: &impl Print, space: &mut [u8]) {
     show(rt, "bad sizes first", space, 20);
 }
 
-// Sizes and two takes, by the first thread that there may be and by the last.
-fn show_sizes(rt: &impl Print, name: &str, space: &mut [u8], record: SizesRecord) {
-    put_sizes(space, 0, record);
-    put_take(space, 10, 0);
-    put_take(space, 20, 7);
-    show(rt, name, space, 30);
-}
-
-// A size below its range, and above it.
-fn threads_and_slots(rt: &impl Print, space: &mut [u8]) {
-    show_sizes(rt, "T = 0", space, sizes(0, 1, 1, 2));
-    show_sizes(rt, "T = 9", space, sizes(9, 1, 1, 2));
-    show_sizes(rt, "H = 0", space, sizes(2, 0, 1, 2));
-    show_sizes(rt, "H = 5", space, sizes(2, 5, 1, 2));
-}
-
-fn links_and_objects(rt: &impl Print, space: &mut [u8]) {
-    show_sizes(rt, "L = 0", space, sizes(2, 1, 0, 2));
-    show_sizes(rt, "L = 17", space, sizes(2, 1, 17, 2));
-    show_sizes(rt, "N = 0", space, sizes(2, 1, 1, 0));
-    show_sizes(rt, "N = 241", space, sizes(2, 1, 1, 241));
-}
-
-fn least_and_largest(rt: &impl Print, space: &mut [u8]) {
-    show_sizes(rt, "the least sizes", space, sizes(1, 1, 1, 1));
-    show_sizes(rt, "the largest sizes", space, sizes(8, 4, 16, 240));
+// A size below its range, and above it; the least sizes, and the largest. After each two takes, by the first thread that there may be and by
+// the last.
+fn each_size(rt: &impl Print, space: &mut [u8]) {
+    let cases = [
+        ("T = 0", sizes(0, 1, 1, 2)),
+        ("T = 9", sizes(9, 1, 1, 2)),
+        ("H = 0", sizes(2, 0, 1, 2)),
+        ("H = 5", sizes(2, 5, 1, 2)),
+        ("L = 0", sizes(2, 1, 0, 2)),
+        ("L = 17", sizes(2, 1, 17, 2)),
+        ("N = 0", sizes(2, 1, 1, 0)),
+        ("N = 241", sizes(2, 1, 1, 241)),
+        ("the least sizes", sizes(1, 1, 1, 1)),
+        ("the largest sizes", sizes(8, 4, 16, 240)),
+    ];
+    for (name, record) in cases {
+        put_sizes(space, 0, record);
+        put_take(space, 10, 0);
+        put_take(space, 20, 7);
+        show(rt, name, space, 30);
+    }
 }
 
 fn main(rt: HostRuntime) {
@@ -101,12 +101,10 @@ fn main(rt: HostRuntime) {
     put_long(&mut space);
     show(&rt, "no bytes", &space, 0);
     parts_of_a_record(&rt, &space);
-    ends_early(&rt, &space);
-    ends_late(&rt, &space);
+    ends(&rt, &space, &EARLY);
+    ends(&rt, &space, &LATE);
     other_record_last(&rt, &mut space);
     other_record_second(&rt, &mut space);
     other_record_first(&rt, &mut space);
-    threads_and_slots(&rt, &mut space);
-    links_and_objects(&rt, &mut space);
-    least_and_largest(&rt, &mut space);
+    each_size(&rt, &mut space);
 }
