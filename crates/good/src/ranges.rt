@@ -11,6 +11,7 @@ fn place_in_range(z: Sizes, slot: u8, link: u8) -> bool
     slot < z.slots && link < z.links
 }
 
+// Not one function with the next, which differs from it in the operator: a look may stand at T × H, a swap may not.
 fn look_in_range(z: Sizes, object: u8, position: u8) -> bool
     ensures { result ≡ within 1 z.objects object && leb position (positions z) }
 {
