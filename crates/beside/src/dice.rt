@@ -16,7 +16,7 @@ impl Seed {
         Seed(stir(stir(self.0).wrapping_add(step)))
     }
 
-    // The same, below n; 0 where n is 0.
+    // The same, below n; 0 where n is 0. A `match` on one draws each arm as often as it has numbers.
     pub fn pick(self, index: usize, n: usize) -> usize {
         let number = self.mix(index).0 as usize;
         number.checked_rem(n).unwrap_or(0)

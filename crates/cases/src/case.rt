@@ -6,8 +6,9 @@ use crate::stage::{Doing, Hazard, Scene};
 use machine::State;
 use plain::{Operation, Order};
 
-// `due` is None where the call is accepted, and `later` where no other applies. `operation` may be none. `variant` is one of
-// eight: which field of the call is wrong and how, or what the thread is doing.
+// `due` is None where the call is accepted, and `later` where no other applies. `operation` is any number, since one that is no
+// operation's is due 22. `variant` is one of eight, and a number since each line reads it for itself: which field of the call is
+// wrong and how, or what the thread is doing.
 #[derive(Clone, Copy, Debug, PartialEq, Eq)]
 pub struct Case {
     pub due: Option<Line>,
