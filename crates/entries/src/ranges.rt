@@ -30,11 +30,10 @@ impl Sizes {
         usize::from(self.threads) * usize::from(self.slots)
     }
 
-    // "A slot's position is thread × H + slot"
-    pub fn position(self, thread: u8, slot: u8) -> u8
-        requires { thread * self.slots + slot < 32 }
+    // "A slot's position is thread × H + slot", for any numbers.
+    pub fn position(self, thread: u8, slot: u8) -> usize
         ensures { result ≡ thread * self.slots + slot }
     {
-        thread * self.slots + slot
+        usize::from(thread) * usize::from(self.slots) + usize::from(slot)
     }
 }

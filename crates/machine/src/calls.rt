@@ -19,7 +19,7 @@ fn expected(sizes: Sizes, slots: [Slot; 32], thread: u8, slot: u8) -> u8
     if slot == 255 {
         0
     } else {
-        slots[usize::from(sizes.position(thread, slot))].hazard
+        slots[sizes.position(thread, slot)].hazard
     }
 }
 
@@ -86,7 +86,7 @@ impl State {
         requires hazard_nonzero { 0 < (slot_at self (position_of self caller.number slot)).hazard }
         ensures { result ≡ read_of self caller.number slot }
     {
-        let p = usize::from(self.sizes.position(caller.number, slot));
+        let p = self.sizes.position(caller.number, slot);
         let o = usize::from(self.slots[p].hazard) - 1;
         Outcome {
             state: self,
@@ -119,7 +119,7 @@ impl State {
         requires { position_of self caller.number slot < 32 }
         ensures { result ≡ clear_of self caller.number slot }
     {
-        let p = usize::from(self.sizes.position(caller.number, slot));
+        let p = self.sizes.position(caller.number, slot);
         let mut next = self;
         next.slots[p] = Slot {
             hazard: 0,

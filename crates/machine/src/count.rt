@@ -31,16 +31,12 @@ impl State {
                 verdict: Err(Refusal::Unsound),
             };
         }
-        let links = self.links;
-        let threads = self.threads;
-        let slots = self.slots;
-        let pool = self.pool;
         let places = Places {
-            free: pool.count(),
-            links: in_links(links),
-            hands: in_hands(threads),
-            handovers: in_handovers(slots),
-            carried: are_carried(threads),
+            free: self.pool.count(),
+            links: in_links(self.links),
+            hands: in_hands(self.threads),
+            handovers: in_handovers(self.slots),
+            carried: are_carried(self.threads),
         };
         Counted {
             places,

@@ -17,8 +17,7 @@ impl State {
         requires { position_of self caller.number slot < 32 }
         ensures { result ≡ publish_of self caller.number slot link object }
     {
-        let own = self.sizes.position(caller.number, slot);
-        let p = usize::from(own);
+        let p = self.sizes.position(caller.number, slot);
         self.slots[p] = Slot {
             hazard: object,
             mark: false,
@@ -27,7 +26,7 @@ impl State {
         self.threads[usize::from(caller.number)].phase = Phase::Sweeping { slot, link };
         Outcome {
             state: self,
-            answer: Answer::Working(Work::Publication(own)),
+            answer: Answer::Working(Work::Publication(p as u8)),
         }
     }
 
@@ -40,14 +39,13 @@ impl State {
         ensures { result ≡ confirm_of self caller.number slot link }
     {
         let object = self.links[usize::from(link)];
-        let own = self.sizes.position(caller.number, slot);
-        let p = usize::from(own);
+        let p = self.sizes.position(caller.number, slot);
         let t = usize::from(caller.number);
         if object != self.slots[p].hazard {
             self.threads[t].phase = Phase::Loaded { slot, link, object };
             return Outcome {
                 state: self,
-                answer: Answer::Working(Work::FailedRead(own)),
+                answer: Answer::Working(Work::FailedRead(p as u8)),
             };
         }
         self.threads[t].phase = Phase::Idle;
@@ -71,8 +69,7 @@ impl State {
         requires { position_of self caller.number slot < 32 }
         ensures { result ≡ empty_of self caller.number slot back }
     {
-        let own = self.sizes.position(caller.number, slot);
-        let p = usize::from(own);
+        let p = self.sizes.position(caller.number, slot);
         let t = usize::from(caller.number);
         let object = self.slots[p].handover;
         self.slots[p].handover = 0;
@@ -86,13 +83,13 @@ impl State {
             }
             return Outcome {
                 state: self,
-                answer: Answer::Working(Work::FoundNothing(own)),
+                answer: Answer::Working(Work::FoundNothing(p as u8)),
             };
         }
-        self.threads[t].phase = back.looking(object, own);
+        self.threads[t].phase = back.looking(object, p as u8);
         Outcome {
             state: self,
-            answer: Answer::Working(Work::Found(own)),
+            answer: Answer::Working(Work::Found(p as u8)),
         }
     }
 

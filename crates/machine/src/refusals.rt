@@ -56,7 +56,7 @@ fn by_objects(sizes: Sizes, slots: [Slot; 32], pool: Pool, request: Request) -> 
     ensures { Refuses (first_of (object_rows (get_or slots (request.call.thread * sizes.slots + request.call.slot) empty_slot) pool request.call)) result }
 {
     let Call { thread, slot, .. } = request.call;
-    if request.reads_slot() && !slots[usize::from(sizes.position(thread, slot))].mark {
+    if request.reads_slot() && !slots[sizes.position(thread, slot)].mark {
         return Err(Refusal::NotProtected);
     }
     if request.operation == Operation::Take && pool.next().is_none() {

@@ -16,8 +16,8 @@ pub(crate) fn first_hazard(sizes: Sizes, slots: [Slot; 32], object: u8) -> Optio
         for thread in 0..sizes.threads {
             for slot in 0..sizes.slots {
                 let at = sizes.position(thread, slot);
-                if slots[usize::from(at)].hazard == object {
-                    break 'scan Some(at);
+                if slots[at].hazard == object {
+                    break 'scan Some(at as u8);
                 }
             }
         }
