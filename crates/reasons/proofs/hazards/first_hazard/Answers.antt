@@ -9,8 +9,8 @@ use Rattle.entries.specs.Facts.{position_less}
 use Rattle.reasons.proofs.Found.{at_end_lem, found_at, found_nowhere}
 use Rattle.reasons.proofs.hazards.first_hazard.Goals as goal
 
-pub returns-then-slots-from : goal.returns-then-slots-from
-returns-then-slots-from c =
+pub returns-then-slots-at : goal.returns-then-slots-at
+returns-then-slots-at c =
     let a = c.args in
     let t = c.loop-thread.thread in
     let l = c.loop-slot in
@@ -19,7 +19,7 @@ returns-then-slots-from c =
     let less = position_less a.sizes.threads a.sizes.slots t l.slot c.loop-thread-test.true c.loop-slot-test.true in
     found_at (a.sizes.threads * a.sizes.slots) (λ j. eqb (get_or a.slots j empty_slot).hazard a.object) p.result
     (omega arith)
-    (eq-eqb _ _ (rw c.from.ensures at c.if-slots-from.true))
+    (eq-eqb _ _ (c.if-slots-at.true))
     (λ j before. l.invariant j (omega arith))
 
 pub returns-after-loop-thread : goal.returns-after-loop-thread
