@@ -11,7 +11,8 @@ impl State {
     pub fn count(self) -> Counted
         ensures { result ≡ count_of self }
     {
-        // The check by its parts, and not `is_sound`: a function with one caller is compiled into it, and would copy what it is lent.
+        // The parts are passed as in `is_sound`, and not by a call of it: with two callers the check is not compiled into one of them, where
+        // what it is lent would be copied.
         if !parts_sound(
             self.sizes,
             &self.links,
@@ -21,13 +22,7 @@ impl State {
             &self.tags,
         ) {
             return Counted {
-                places: Places {
-                    free: 0,
-                    links: 0,
-                    hands: 0,
-                    handovers: 0,
-                    carried: 0,
-                },
+                places: Places::default(),
                 verdict: Err(Refusal::Unsound),
             };
         }

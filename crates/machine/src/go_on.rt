@@ -41,25 +41,20 @@ impl State {
         let object = self.links[usize::from(link)];
         let p = self.sizes.position(caller.number, slot);
         let t = usize::from(caller.number);
-        if object != self.slots[p].hazard {
+        let answer = if object != self.slots[p].hazard {
             self.threads[t].phase = Phase::Loaded { slot, link, object };
-            return Outcome {
-                state: self,
-                answer: Answer::Working(Work::FailedRead(p as u8)),
-            };
-        }
-        self.threads[t].phase = Phase::Idle;
-        if object == 0 {
-            return Outcome {
-                state: self,
-                answer: Answer::Nothing,
-            };
-        }
-        self.slots[p].mark = true;
-        let tag = self.tags[usize::from(object) - 1];
+            Answer::Working(Work::FailedRead(p as u8))
+        } else if object == 0 {
+            self.threads[t].phase = Phase::Idle;
+            Answer::Nothing
+        } else {
+            self.threads[t].phase = Phase::Idle;
+            self.slots[p].mark = true;
+            Answer::Protected(object, self.tags[usize::from(object) - 1])
+        };
         Outcome {
             state: self,
-            answer: Answer::Protected(object, tag),
+            answer,
         }
     }
 
@@ -73,23 +68,20 @@ impl State {
         let t = usize::from(caller.number);
         let object = self.slots[p].handover;
         self.slots[p].handover = 0;
-        if object == 0 {
+        let answer = if object != 0 {
+            self.threads[t].phase = back.looking(object, p as u8);
+            Answer::Working(Work::Found(p as u8))
+        } else {
             self.threads[t].phase = back;
             if back.is_idle() {
-                return Outcome {
-                    state: self,
-                    answer: Answer::Finished,
-                };
+                Answer::Finished
+            } else {
+                Answer::Working(Work::FoundNothing(p as u8))
             }
-            return Outcome {
-                state: self,
-                answer: Answer::Working(Work::FoundNothing(p as u8)),
-            };
-        }
-        self.threads[t].phase = back.looking(object, p as u8);
+        };
         Outcome {
             state: self,
-            answer: Answer::Working(Work::Found(p as u8)),
+            answer,
         }
     }
 
@@ -99,23 +91,21 @@ impl State {
         requires object_bound { (0 < object) × (object ≤ 240) }
         ensures { result ≡ look_of self caller.number object position }
     {
-        if self.sizes.threads * self.sizes.slots <= position {
+        if self.sizes.positions() <= usize::from(position) {
             return self.let_go(caller, object);
         }
         let t = usize::from(caller.number);
         let back = self.threads[t].phase.returns_to();
-        if self.slots[usize::from(position)].hazard == object {
+        let answer = if self.slots[usize::from(position)].hazard == object {
             self.threads[t].phase = back.swapping(object, position);
-            return Outcome {
-                state: self,
-                answer: Answer::Working(Work::Match(position)),
-            };
-        }
-        let further = position + 1;
-        self.threads[t].phase = back.looking(object, further);
+            Answer::Working(Work::Match(position))
+        } else {
+            self.threads[t].phase = back.looking(object, position + 1);
+            Answer::Working(Work::NoMatch(position))
+        };
         Outcome {
             state: self,
-            answer: Answer::Working(Work::NoMatch(position)),
+            answer,
         }
     }
 
@@ -144,18 +134,17 @@ impl State {
         self.slots[p].handover = object;
         let t = usize::from(caller.number);
         let back = self.threads[t].phase.returns_to();
-        if old == 0 {
+        let answer = if old == 0 {
             self.threads[t].phase = back;
-            return Outcome {
-                state: self,
-                answer: Answer::Left(object, position),
-            };
-        }
-        // "The same position is looked at again."
-        self.threads[t].phase = back.looking(old, position);
+            Answer::Left(object, position)
+        } else {
+            // "The same position is looked at again."
+            self.threads[t].phase = back.looking(old, position);
+            Answer::Working(Work::Displacement(position))
+        };
         Outcome {
             state: self,
-            answer: Answer::Working(Work::Displacement(position)),
+            answer,
         }
     }
 
@@ -165,10 +154,7 @@ impl State {
         requires { (sound self ≡ true) × (caller.number < self.sizes.threads) }
         ensures { result ≡ go_on_of self caller.number }
     {
-        // out of a copy of the threads, as in the refusals
-        let threads = self.threads;
-        let me = threads[usize::from(caller.number)];
-        let phase = me.phase;
+        let phase = self.threads[usize::from(caller.number)].phase;
         match phase {
             Phase::Idle => Outcome {
                 state: self,

@@ -22,23 +22,12 @@ pub(crate) fn parts_sound(
 ) -> bool
     ensures { result ≡ sound (of_parts z links.now threads slots marks.now tags.now) }
 {
-    if !z.are_good() {
-        return false;
-    }
-    if !links_good(z, links) {
-        return false;
-    }
-    if !threads_good(z, threads) {
-        return false;
-    }
-    if !slots_good(z, slots) {
-        return false;
-    }
-    if !tags_good(z, tags) {
-        return false;
-    }
-    let row = row_of(z, *links, threads, slots);
-    are_placed(z.objects, marks, &row)
+    z.are_good()
+        && links_good(z, links)
+        && threads_good(z, threads)
+        && slots_good(z, slots)
+        && tags_good(z, tags)
+        && are_placed(z.objects, marks, &row_of(z, *links, threads, slots))
 }
 
 impl State {

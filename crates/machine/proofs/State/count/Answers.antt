@@ -5,7 +5,7 @@ use Rattle.machine.proofs.State.count.Goals as goal
 
 pub returns-then-not-parts_sound : goal.returns-then-not-parts_sound
 unfolding count_of
-returns-then-not-parts_sound c = rw (sym c.parts_sound.ensures ∙ c.if-not-parts_sound.true)
+returns-then-not-parts_sound c = let h = c.default.ensures in rw (sym c.parts_sound.ensures ∙ c.if-not-parts_sound.true, h.0, h.1.0, h.1.1.0, h.1.1.1.0, h.1.1.1.1)
 
 pub returns : goal.returns
 unfolding count_of five_places

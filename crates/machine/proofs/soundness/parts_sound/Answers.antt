@@ -2,12 +2,13 @@
 use Prim.Native.Nat.{ℕ, suc, ◌+◌}
 use native.Mathlib.Omega.{arith}
 use mathlib.Core.Path.{◌≡◌, sym, ap, ◌∙◌}
-use mathlib.Core.Bool.{true, false, not, ◌&&◌, ◌||◌, and-false}
+use mathlib.Core.Bool.{Bool, true, false, not, ◌&&◌, ◌||◌, and-false}
 use mathlib.Core.List.{List}
 use lib.ListN.{length, get_or}
 use lib.Dec.{ltb, eqb}
 use borrow.Author.Tests.{eq-eqb, le-leb}
 use borrow.Author.Rules.{rules}
+use Rattle.std.proofs.lemmas.Bool.{false≢true}
 use Rattle.basics.specs.Tests.{passed, and_then}
 use Rattle.basics.specs.Under.{all_under, under_same, under_at}
 use Rattle.basics.specs.Counts.{bit, count_under}
@@ -21,6 +22,7 @@ use Rattle.machine.specs.Parts.{of_parts, link_at, thread_at, slot_at, free_at}
 use Rattle.machine.specs.Soundness.{places_holding, sound}
 use Rattle.machine.specs.Sound.{Shape, from_shape}
 use Rattle.machine.proofs.soundness.parts_sound.Goals as goal
+use Rattle.machine.proofs.soundness.parts_sound.Goals.{then-are_good, else-are_good, then-links_good, else-links_good, then-threads_good, else-threads_good, then-slots_good, else-slots_good}
 
 -- the numbers of all places but the free ones, within the sizes
 abbrev row : State → List ℕ
@@ -62,39 +64,55 @@ unfolding sound pool_good
 decides s passed tags long =
     rw (from_shape s passed.shape, passed.sizes, passed.links, passed.threads, passed.slots, tags, eq-eqb _ _ long, once-each s passed)
 
-pub returns-then-not-are_good : goal.returns-then-not-are_good
-unfolding sound
-returns-then-not-are_good c = rw (sym c.are_good.ensures ∙ c.if-not-are_good.true, and-false)
+-- a test that failed where it is said to hold
+none : {A : Type 0} {b : Bool} → b ≡ false → b ≡ true → A
+none lost held = absurd (false≢true (sym lost ∙ held))
 
-pub returns-then-not-links_good : goal.returns-then-not-links_good
-unfolding sound
-returns-then-not-links_good c = rw (sym c.links_good.ensures ∙ c.if-not-links_good.true, and-false)
-
-pub returns-then-not-threads_good : goal.returns-then-not-threads_good
-unfolding sound
-returns-then-not-threads_good c = rw (sym c.threads_good.ensures ∙ c.if-not-threads_good.true, and-false)
-
-pub returns-then-not-slots_good : goal.returns-then-not-slots_good
-unfolding sound
-returns-then-not-slots_good c = rw (sym c.slots_good.ensures ∙ c.if-not-slots_good.true, and-false)
-
-pub returns-then-not-tags_good : goal.returns-then-not-tags_good
-unfolding sound
-returns-then-not-tags_good c = rw (sym c.tags_good.ensures ∙ c.if-not-tags_good.true, and-false)
-
-pub returns : goal.returns
-returns c =
+pub returns-then-tags_good : goal.returns-then-tags_good
+returns-then-tags_good c =
     let a = c.args in
     let s = of_parts a.z a.links.now a.threads a.slots a.marks.now a.tags.now in
+    let all = c.if-tags_good.true in
     c.are_placed.ensures ∙
-    rw c.row_of-row.ensures
-    (decides s
-    (record {
-      shape = record { links = search rules; threads = search rules; slots = search rules; tags = search rules };
-      sizes = sym c.are_good.ensures ∙ c.if-not-are_good.false;
-      links = sym c.links_good.ensures ∙ c.if-not-links_good.false;
-      threads = sym c.threads_good.ensures ∙ c.if-not-threads_good.false;
-      slots = sym c.slots_good.ensures ∙ c.if-not-slots_good.false;
-    })
-    (sym c.tags_good.ensures ∙ c.if-not-tags_good.false)
-    (search rules))
+    rw c.row_of.ensures
+    (elim c.if-slots_good.branch [
+      | then-slots_good w ↦ elim c.if-threads_good.branch [
+        | then-threads_good v ↦ elim c.if-links_good.branch [
+          | then-links_good u ↦ elim c.if-are_good.branch [
+            | then-are_good t ↦
+                decides s
+                (record {
+                  shape = record { links = search rules; threads = search rules; slots = search rules; tags = search rules };
+                  sizes = sym c.are_good.ensures ∙ t.if-are_good.true;
+                  links = sym t.links_good.ensures ∙ sym t.value-is ∙ u.if-links_good.true;
+                  threads = sym u.threads_good.ensures ∙ sym u.value-is ∙ v.if-threads_good.true;
+                  slots = sym v.slots_good.ensures ∙ sym v.value-is ∙ w.if-slots_good.true;
+                })
+                (sym w.tags_good.ensures ∙ sym w.value-is ∙ all)
+                (search rules)
+            | else-are_good t ↦ none t.if-are_good.false (sym t.value-is ∙ u.if-links_good.true)
+          ]
+          | else-links_good u ↦ none u.if-links_good.false (sym u.value-is ∙ v.if-threads_good.true)
+        ]
+        | else-threads_good v ↦ none v.if-threads_good.false (sym v.value-is ∙ w.if-slots_good.true)
+      ]
+      | else-slots_good w ↦ none w.if-slots_good.false (sym w.value-is ∙ all)
+    ])
+
+pub returns-else-tags_good : goal.returns-else-tags_good
+unfolding sound
+returns-else-tags_good c =
+    let lost : c.if-slots_good.value ≡ false = c.if-tags_good.false in
+    elim c.if-slots_good.branch [
+      | then-slots_good w ↦ rw (lost, sym w.tags_good.ensures ∙ sym w.value-is ∙ lost, and-false)
+      | else-slots_good w ↦ elim c.if-threads_good.branch [
+        | then-threads_good v ↦ rw (lost, sym v.slots_good.ensures ∙ sym v.value-is ∙ w.if-slots_good.false, and-false)
+        | else-threads_good v ↦ elim c.if-links_good.branch [
+          | then-links_good u ↦ rw (lost, sym u.threads_good.ensures ∙ sym u.value-is ∙ v.if-threads_good.false, and-false)
+          | else-links_good u ↦ elim c.if-are_good.branch [
+            | then-are_good t ↦ rw (lost, sym t.links_good.ensures ∙ sym t.value-is ∙ u.if-links_good.false, and-false)
+            | else-are_good t ↦ rw (lost, sym c.are_good.ensures ∙ t.if-are_good.false, and-false)
+          ]
+        ]
+      ]
+    ]
