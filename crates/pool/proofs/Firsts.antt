@@ -1,5 +1,7 @@
 -- The first mark that is on, by std's word for it: objects are counted from 1, marks from 0.
-use Rattle.std.proofs.Common.{ℕ, suc, ◌+◌, ◌<◌, ◌≡◌, refl, Bool, true, false, List, [], ◌∷◌, length, add-one, sym, ap, ◌∙◌}
+use Rattle.std.proofs.Common.{ℕ, suc, ◌+◌, ◌<◌, ◌≤◌, ◌≡◌, refl, Bool, true, false, List, [], ◌∷◌, length, drop, get_or, add-one, sym, ap, ◌∙◌}
+use Rattle.std.proofs.Math.ListN.{drop_of_length-le}
+use Rattle.std.proofs.Math.Seq.{drop-cons}
 use Rattle.std.specs.Prelude.{Option, Some, None, position}
 use Rattle.std.specs.List.{position_from}
 use Rattle.std.proofs.lemmas.Iterator.Adapters.{position_from-zero}
@@ -28,3 +30,23 @@ module _ (marks : List Bool) where
 
   pub on_within : (k : ℕ) → Some k ≡ position (λ mark. mark) marks → k < length marks
   on_within k e = (position-Some (λ mark. mark) marks k false (sym e)).0
+
+-- one mark after the other: that at k, and the ones behind it
+first_on_on : (k : ℕ) (mark : Bool) (marks : List Bool) → mark ≡ true → first_on k (mark ∷ marks) ≡ suc k
+unfolding first_on
+first_on_on k mark marks e = rw e
+
+first_on_off : (k : ℕ) (mark : Bool) (marks : List Bool) → mark ≡ false → first_on k (mark ∷ marks) ≡ first_on (suc k) marks
+unfolding first_on
+first_on_off k mark marks e = rw e
+
+module _ (marks : List Bool) (k : ℕ) (h : k < length marks) where
+  pub here : get_or marks k false ≡ true → first_on k (drop k marks) ≡ k + 1
+  here e = rw (drop-cons marks k false h) (first_on_on k _ _ e ∙ sym (add-one k))
+
+  pub further : get_or marks k false ≡ false → first_on k (drop k marks) ≡ first_on (k + 1) (drop (k + 1) marks)
+  further e = rw (add-one, drop-cons marks k false h) (first_on_off k _ _ e)
+
+pub none : (marks : List Bool) (k : ℕ) → length marks ≤ k → first_on k (drop k marks) ≡ 0
+unfolding first_on
+none marks k h = rw (drop_of_length-le marks h)

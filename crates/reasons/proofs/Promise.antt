@@ -10,7 +10,7 @@ use Rattle.reasons.specs.declared.Reason.{Reason}
 use Rattle.reasons.specs.declared.Kept.{Kept}
 use Rattle.reasons.specs.declared.NotKept.{NotKept}
 use Rattle.reasons.specs.Reasons.{reason_of, hazard_of, refusals, why_of}
-use Rattle.reasons.specs.Numbers.{numbers_of}
+use Rattle.reasons.specs.Numbers.{number_of, numbers_of}
 use Rattle.reasons.specs.Applies.{Stays, Applies, NoHazard, FirstHazard}
 use Rattle.reasons.proofs.Lemmas.Named as named
 use Rattle.reasons.proofs.Lemmas.Hazards as hazards
@@ -37,6 +37,10 @@ nowhere_exactly = hazards.nowhere_exactly
 -- "Refusals: 19, then 60 object not 1 to N, then 61 object is free": the first that applies, and never otherwise
 pub refused_exactly : (s : State) (o : ℕ) (k : NotKept) → why_of s o ≡ Err k ↔ FirstIs (refusals s o) k
 refused_exactly = told.refused_exactly
+
+-- and a number is one refusal's
+pub one_number : (k k' : NotKept) → number_of k ≡ number_of k' → k ≡ k'
+one_number = told.one_number
 
 -- An object that is not free is told by the numbers of whatever reason applies to it and whatever hazard is the first.
 pub told_as : (s : State) (o : ℕ) → Stays s o → (r : Reason) (h : Option ℕ) → Applies s o r → FirstHazard s o h

@@ -8,6 +8,7 @@ use mathlib.Core.List.{List, [], map, ◌++◌, append-nil, append_assoc}
 use Rattle.std.proofs.Math.ListN.{length, get_or, replicate, length-append, get_or-map}
 use Rattle.std.proofs.lemmas.List.{length-map, length-replicate}
 use Rattle.std.proofs.Math.Seq.{paste, paste-suc, drop-append-add}
+use Rattle.std.proofs.lemmas.List.Edits.{length-paste}
 use Rattle.basics.specs.Counts.{count_under, occurrences, occurrences_append, occurrences_within, occurrences_map, none_in_zeros, count_under_list}
 use Rattle.basics.specs.Lists.{Each}
 use Rattle.entries.specs.declared.Sizes.{Sizes}
@@ -26,6 +27,11 @@ laid_more before at s i so_far is room inside =
     ap₂ (λ (row : List ℕ) (number : ℕ). set row (at + i) number) so_far is ∙
     paste-suc before at s i 0 room inside ∙
     ap (paste before at s) (sym (add-one i))
+
+-- and the row keeps its length
+pub still_long : (before : List ℕ) (at : ℕ) (s : List ℕ) (n : ℕ) {now : List ℕ} → now ≡ paste before at s n → length before ≡ 64 → at + n ≤ 64 → n ≤ length s
+    → length now ≡ 64
+still_long before at s n is long room there = ap length is ∙ length-paste before at s n (omega arith) there ∙ long
 
 length_padded : (n room : ℕ) (s : List ℕ) → n ≤ room → n ≤ length s → length (padded n room s) ≡ room
 unfolding padded

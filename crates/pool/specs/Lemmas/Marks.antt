@@ -2,7 +2,7 @@
 use Prim.Native.Nat.{ℕ, zero, suc, ◌+◌, ◌-◌, ◌<◌, ◌≤◌}
 use native.Mathlib.Omega.{arith}
 use Rattle.std.specs.Prelude.{◌≡◌, refl, Bool, not, ◌||◌, ◌++◌, set, ltb, ◌⊎◌}
-use Rattle.std.proofs.Common.{⊎_elim, sym, ap, ◌∙◌, length-append, length-set, get_or-append-add, get_or-set_same, get_or-set_other, eqb-true, eq-eqb, le-leb, lt-ltb, le-ltb, ltb-true, ltb-false}
+use Rattle.std.proofs.Common.{inr, ⊎_elim, sym, ap, ◌∙◌, length-append, length-set, get_or-append-add, get_or-set_same, get_or-set_other, eqb-true, eq-eqb, le-leb, lt-ltb, le-ltb, ltb-true, ltb-false}
 use Rattle.std.proofs.Math.Path.{subst}
 use Rattle.std.proofs.Math.Bool.{true, false}
 use Rattle.std.proofs.lemmas.Bool.{false≢true, not-true}
@@ -200,3 +200,36 @@ module _ (pool : Pool) (long : length pool.marks ≡ 240) where
   marked_out zero mark out = refl
   marked_out (suc k) mark out =
       ap pool_of (sym (set_out pool.marks k mark (rw long (⊎_elim (λ (e : suc k ≡ 0). omega arith) (λ (past : 240 < suc k). omega arith) out))))
+
+-- the same of an object above 0, and of one past 240
+module _ (pool : Pool) (o : ℕ) where
+  pub free_at_lem : 0 < o → get_or pool.marks (o - 1) false ≡ is_free pool o
+  unfolding is_free
+  free_at_lem some = at o some
+    where
+      at : (o : ℕ) → 0 < o → get_or pool.marks (o - 1) false ≡ is_free pool o
+      at zero some = absurd (omega arith)
+      at (suc k) some = let e : suc k - 1 ≡ k = omega arith in rw e
+
+  pub free_past : length pool.marks ≡ 240 → 240 < o → false ≡ is_free pool o
+  free_past long past = free_out pool long o (inr past)
+
+module _ (pool : Pool) where
+  pub out_at : (o : ℕ) → 0 < o → pool_of (set pool.marks (o - 1) false) ≡ taken_out pool o
+  unfolding taken_out
+  out_at zero some = absurd (omega arith)
+  out_at (suc k) some = let e : suc k - 1 ≡ k = omega arith in rw e
+
+  pub back_at : (o : ℕ) → 0 < o → pool_of (set pool.marks (o - 1) true) ≡ put_back pool o
+  unfolding put_back
+  back_at zero some = absurd (omega arith)
+  back_at (suc k) some = let e : suc k - 1 ≡ k = omega arith in rw e
+
+  stored_past : (o : ℕ) (mark : Bool) → length pool.marks ≡ 240 → 240 < o → pool ≡ pool_of (set pool.marks (o - 1) mark)
+  stored_past o mark long past = ap pool_of (sym (set_out pool.marks (o - 1) mark (rw long (omega arith))))
+
+  pub out_past : (o : ℕ) → length pool.marks ≡ 240 → 240 < o → pool ≡ taken_out pool o
+  out_past o long past = stored_past o false long past ∙ out_at o (omega arith)
+
+  pub back_past : (o : ℕ) → length pool.marks ≡ 240 → 240 < o → pool ≡ put_back pool o
+  back_past o long past = stored_past o true long past ∙ back_at o (omega arith)
