@@ -15,7 +15,7 @@ SHAPES = r"(Good|Refused\(u8\)|Bad\(|Nowhere|Done(\(|,)|End,|Stop\(u8|Value\(|Fu
 BY_HAND = r"fn (same\w*|is|bit|wide(32)?|byte|word|least|up|digit|is_digit|blank_sizes|within|shown|none|nothing|empty|bare|blank|idle|either|last|call_of|told_as)[(<]"
 # the comment of a function that answers a number for "none"
 NO_VALUE = r"//.*(\b0 where (it|none|no|there|the call is)|0 for none|or 256\b|, or 0\.|if none has|0 where none)"
-FACTS = r"(thread < 8|link < 16|position_of self thread slot < 32|10 ≤ length input.now|room_for_all ≤ length out.old|length marks.now ≡ 240|length row.old ≡ 64|at \+ \w+_room ≤ length out.old)"
+FACTS = r"(thread < 8|link < 16|position_of self (thread|caller.number) slot < 32|10 ≤ length input.now|room_for_all ≤ length|length marks.now ≡ 240|length row.old ≡ 64|at \+ \w+_room ≤ length out.old|HasRoom \w+ )"
 
 
 def files(root):
