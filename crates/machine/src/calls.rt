@@ -11,7 +11,8 @@ use crate::caller::Caller;
 use crate::{Answer, Outcome, State};
 use entries::{Phase, Sizes, Slot, Thread};
 
-// what the link must hold for a swap: "the slot's object (255: holds 0)"
+// What the link must hold for a swap: "the slot's object (255: holds 0)". That 255 is no slot is 01's form. It is given the parts that it
+// reads and not the state: the compiler copies what is given by value.
 fn expected(sizes: Sizes, slots: [Slot; 32], thread: u8, slot: u8) -> u8
     requires { (slot ≡ 255 → ⊥) → thread * sizes.slots + slot < 32 }
     ensures { result ≡ cond (eqb slot 255) 0 (get_or slots (thread * sizes.slots + slot) empty_slot).hazard }
@@ -24,6 +25,7 @@ fn expected(sizes: Sizes, slots: [Slot; 32], thread: u8, slot: u8) -> u8
 }
 
 // Each call but a read changes a copy of the state: with `mut self` here as well the compiler makes more copies, as was measured.
+// The bounds on links and positions stay in clauses; caller.rt says why.
 impl State {
     // take: "lowest-numbered free object goes to the hand with this tag"
     pub(crate) fn take(self, caller: Caller, tag: u32) -> Outcome

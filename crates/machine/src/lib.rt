@@ -28,6 +28,7 @@ pub struct State {
     pub tags: [u32; 240],
 }
 
+// The operation is a byte and no enum: "operation not 1 to 7" is refused 22, in its turn among the refusals.
 #[derive(Clone, Copy, Debug, PartialEq, Eq)]
 pub struct Call {
     pub thread: u8,
@@ -72,6 +73,7 @@ pub struct Outcome {
     pub answer: Answer,
 }
 
+// No `Result`, since a refusal has a state too: "refused 20 and returns the blank state".
 #[derive(Clone, Copy)]
 pub struct Started {
     pub state: State,
@@ -87,6 +89,7 @@ pub struct Places {
     pub carried: u8,
 }
 
+// No `Result`, since a refusal has counts too: "refused 19 with five zeros".
 #[derive(Clone, Copy, Debug, PartialEq, Eq)]
 pub struct Counted {
     pub places: Places,

@@ -14,6 +14,8 @@ use crate::{Call, Refusal, State};
 use entries::{Sizes, Slot, Thread};
 use pool::Pool;
 
+// Each group of lines is given the parts of the state that it reads, not the state: the compiler copies what is given by value.
+
 // The lines that look at the call's fields and the sizes alone.
 fn by_fields(sizes: Sizes, call: Call) -> Result<Request, Refusal>
     ensures { Admits call (first_of (field_rows sizes call)) result }

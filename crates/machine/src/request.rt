@@ -26,6 +26,7 @@ impl Request {
             || (!operation.uses_tag() && call.tag != 0)
     }
 
+    // "255 is good in swap only": 01's form of no slot, where others write None.
     pub(crate) fn without_slot(self) -> bool
         ensures { result ≡ without_slot self.call }
     {

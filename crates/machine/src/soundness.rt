@@ -9,7 +9,7 @@ use good::{links_good, slots_good, tags_good, threads_good};
 use places::row_of;
 use pool::are_placed;
 
-// The check of a state's parts. What has an entry for each object is lent, so that none of it is copied. The ranges come first: entries
+// The check of a state's parts. What has an entry for each object is lent, and the links, so that none of it is copied. The ranges come first: entries
 // that are good hold nothing beyond the sizes, so only what is within them is laid out for the walk. Its parts and not the state: with
 // `&State`, or with the threads and slots lent too, a call took 6 to 9 in a hundred more instructions at N 10, and a run 816 bytes more of stack.
 pub(crate) fn parts_sound(
