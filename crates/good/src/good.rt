@@ -71,7 +71,7 @@ pub fn slots_good(z: Sizes, slots: [Slot; 32]) -> bool
         && beyond.iter().all(|&slot| slot_empty(slot))
 }
 
-// Only tags beyond N can be wrong. Every entry is looked at, so that many are taken at once.
+// Only tags beyond N can be wrong. Every entry is looked at, so that many are taken at once; `all` would leave at the first that is wrong.
 pub fn tags_good(z: Sizes, tags: &[u32; 240]) -> bool
     ensures { result ≡ all_under 240 (λ k. tag_good z k (get_or tags.now k 0)) }
 {

@@ -1,4 +1,5 @@
-// How many objects stand in the links, in the hands and in the handovers, and how many are carried.
+// How many objects stand in the links, in the hands and in the handovers, and how many are carried. Four functions though each is one
+// expression: they are public, and the laws name each.
 ghost use Rattle.std.specs.Prelude.{◌≡◌};
 ghost use Rattle.entries.specs.Phases.{carried_by};
 ghost use Rattle.basics.specs.Counts.{how_many};

@@ -47,10 +47,7 @@ impl Pool {
     pub fn is_free(self, object: u8) -> bool
         ensures { result ≡ is_free self object }
     {
-        match place(object) {
-            Some(k) => self.marks[k],
-            None => false,
-        }
+        place(object).is_some_and(|k| self.marks[k])
     }
 
     // The pool with the object's mark on or off.

@@ -16,14 +16,14 @@ pub(crate) fn first_marked(n: u8) -> [bool; 240]
     marks
 }
 
-// Where the first mark that is on stands.
+// Where the first mark that is on stands. On its own: written in `Pool::next`, that the search is std's `position` did not prove.
 pub(crate) fn first_on(marks: &[bool; 240]) -> Option<usize>
     ensures { result ≡ position (λ mark. mark) marks.now }
 {
     marks.iter().position(|&mark| mark)
 }
 
-// Every mark from n on is looked at, so that many are taken at once.
+// Every mark from n on is looked at, so that many are taken at once; `all` would leave at the first that is on.
 pub(crate) fn off_from(n: u8, marks: &[bool; 240]) -> bool
     requires { n ≤ 240 }
     ensures { result ≡ all_under 240 (λ k. ltb k n || not (get_or marks.now k false)) }
@@ -35,7 +35,8 @@ pub(crate) fn off_from(n: u8, marks: &[bool; 240]) -> bool
     off
 }
 
-// "every object 1 to N is in exactly one place": the places are walked for each, and the first that is in none or in several decides.
+// "every object 1 to N is in exactly one place": the places are walked for each, and the first that is in none or in several decides. A
+// loop: of `(1..=n).zip(marks).all(..)` the tactics proved all but what it answers.
 pub(crate) fn each_once(n: u8, marks: &[bool; 240], row: &[u8; 64]) -> bool
     requires { n ≤ 240 }
     ensures { result ≡ all_under n (λ k. eqb (bit (get_or marks.now k false) + count_under 64 (λ i. eqb (get_or row.now i 0) (suc k))) 1) }

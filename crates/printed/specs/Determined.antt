@@ -1,11 +1,12 @@
--- "Any two results allowed by it are proved the same", for the public functions whose law does not stand with them: `machine`'s are in `laws`,
--- those of `records` and `reasons` in their own Promise.
+-- "Any two results allowed by it are proved the same", for the public functions whose law does not stand with them: those of `machine`
+-- that take a state or sizes are in `laws`, those of `records` and of `reasons::why` in their own Promise.
 use Rattle.std.specs.Prelude.{ℕ, ◌+◌, ◌*◌, min, ◌≡◌, Bool, false, not, ◌&&◌, ◌||◌, List, map, length, get_or, drop, ltb, eqb}
+use Rattle.std.proofs.Common.{sym, ap, ◌∙◌}
 use Rattle.basics.specs.Counts.{bit, how_many, count_under}
 use Rattle.basics.specs.Functions.{allowed_once}
 use Rattle.basics.specs.Under.{all_under}
 use Rattle.pool.specs.declared.Pool.{Pool}
-use Rattle.pool.specs.Pool.{pool_of, is_free, next_of, fresh_pool, taken_out, put_back, free_count, each_once}
+use Rattle.pool.specs.Pool.{pool_of, is_free, object_of, next_of, fresh_pool, taken_out, put_back, free_count, each_once}
 use Rattle.entries.specs.declared.Sizes.{Sizes}
 use Rattle.entries.specs.declared.Thread.{Thread}
 use Rattle.entries.specs.declared.Slot.{Slot}
@@ -14,13 +15,21 @@ use Rattle.entries.specs.Sizes.{within, in_range, positions}
 use Rattle.entries.specs.Phases.{is_idle, carried_by, scans_at, returns_to, looking, swapping}
 use Rattle.entries.specs.Entries.{idle_thread, empty_slot, is_object, sizes_good, link_good, thread_good, slot_good, tag_good}
 use Rattle.places.specs.Row.{row_of}
+use Rattle.machine.specs.declared.Answer.{Answer}
+use Rattle.machine.specs.Answers as machine
+use Rattle.reasons.specs.Numbers as reasons
+use Rattle.records.specs.declared.Malformed.{Malformed}
+use Rattle.text.specs.declared.page.Page.{Page}
 use Rattle.text.specs.Decimal.{decimal}
 use Rattle.text.specs.Fields.{joined}
 use Rattle.text.specs.Words.{filled}
 use Rattle.text.specs.Written.{place_after, buffer_after}
+use Rattle.schedule.specs.declared.Stop.{Stop}
+use Rattle.schedule.specs.declared.Stop.TheVariants as stop
 use Rattle.schedule.specs.Opening.{opened_of}
 use Rattle.schedule.specs.Stopping.{stop_number}
 use Rattle.schedule.specs.Going as going
+use Rattle.lines.specs.declared.told.Numbers.{Numbers}
 use Rattle.lines.specs.Lent as lines
 use Rattle.sentences.specs.Lent as sentences
 use Rattle.words.specs.declared.Run.{Run}
@@ -47,6 +56,12 @@ lent_once answer bytes x r r' after after' (a, b) (a', b') = (allowed_once answe
 pub run_once : (input : List ℕ) → LentOnce (lines.answer_of input) (lines.buffer_of input)
 run_once input = lent_once _ _
 
+-- the answer as numbers: what is asked of the three fields leaves one choice of each
+pub numbers_from_once : (answer : Answer) (r r' : Numbers)
+    → machine.numbers_of answer ≡ machine.numbers r.number r.a r.b → machine.numbers_of answer ≡ machine.numbers r'.number r'.a r'.b
+    → r ≡ r'
+numbers_from_once answer r r' e e' = ap (λ n. record { number = n.number; a = n.a; b = n.b }) (sym e ∙ e')
+
 pub tell_once : (input : List ℕ) → LentOnce (sentences.answer_of input) (sentences.buffer_of input)
 tell_once input = lent_once _ _
 
@@ -67,6 +82,9 @@ put_line_once numbers place = lent_once _ _
 
 pub put_filled_once : (template numbers : List ℕ) → PutOnce (3 * length template) (filled template numbers)
 put_filled_once template numbers place = lent_once _ _
+
+pub place_once : Once (λ (page : Page). page.at)
+place_once = allowed_once _
 
 -- ---- words
 
@@ -94,6 +112,14 @@ slot_of_once operation = allowed_once _
 pub tag_of_once : Once tag_of
 tag_of_once = allowed_once _
 
+-- ---- the number of a refusal
+
+pub refusal_number_once : Once machine.number_of
+refusal_number_once = allowed_once _
+
+pub not_kept_number_once : Once reasons.number_of
+not_kept_number_once = allowed_once _
+
 -- ---- schedule
 
 pub opened_once : Once opened_of
@@ -101,6 +127,9 @@ opened_once = allowed_once _
 
 pub stop_number_once : Once stop_number
 stop_number_once = allowed_once _
+
+pub stop_from_once : Once {A = Malformed} {B = Stop} (λ why. stop.Malformed why)
+stop_from_once = allowed_once _
 
 pub stands_next_once : (steps : ℕ) → Once (going.next_of steps)
 stands_next_once steps = allowed_once _
@@ -115,6 +144,9 @@ sizes_good_once = allowed_once _
 
 pub positions_once : Once positions
 positions_once = allowed_once _
+
+pub position_once : (z : Sizes) (thread : ℕ) → Once (λ (slot : ℕ). thread * z.slots + slot)
+position_once z thread = allowed_once _
 
 pub within_once : (low high : ℕ) → Once (within low high)
 within_once low high = allowed_once _
@@ -175,6 +207,10 @@ fresh_once = allowed_once _
 
 pub next_once : Once next_of
 next_once = allowed_once _
+
+-- the object of that number: what `Pool::next` answers
+pub next_object_once : Once (λ (pool : Pool). object_of (next_of pool))
+next_object_once = allowed_once _
 
 pub is_free_once : (pool : Pool) → Once (is_free pool)
 is_free_once pool = allowed_once _

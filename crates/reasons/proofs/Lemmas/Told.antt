@@ -1,6 +1,6 @@
 -- What is told of an object: refused by the table, or by its reason and its first hazard.
-use Rattle.std.specs.Prelude.{ℕ, ◌<◌, ◌≤◌, ◌≡◌, true, ◌↔◌, Option, Some, Ok, Err}
-use Rattle.std.proofs.Common.{arith, sym, ◌∙◌}
+use Rattle.std.specs.Prelude.{ℕ, ◌<◌, ◌≤◌, ◌≡◌, refl, true, cond, eqb, ◌↔◌, Option, Some, Ok, Err}
+use Rattle.std.proofs.Common.{arith, sym, ap, ◌∙◌}
 use Rattle.std.proofs.lemmas.Bool.{false≢true}
 use Rattle.machine.specs.declared.State.{State}
 use Rattle.machine.specs.Parts.{free_at}
@@ -38,6 +38,18 @@ pub told_as : (s : State) (o : ℕ) → Stays s o → (r : Reason) (h : Option �
     → numbers_of (why_of s o) ≡ numbers_of (Ok (record { reason = r; hazard = h }))
 told_as s o stays r h applies first =
     rw (explained s o stays, ← only_one s o stays r applies, ← only_hazard s o h first)
+
+with_number : ℕ → NotKept
+with_number n = cond (eqb n 19) Unsound (cond (eqb n 60) NoSuchObject Free)
+
+told : (k : NotKept) → with_number (number_of k) ≡ k
+unfolding with_number number_of
+told Unsound = refl
+told NoSuchObject = refl
+told Free = refl
+
+pub one_number : (k k' : NotKept) → number_of k ≡ number_of k' → k ≡ k'
+one_number k k' e = sym (told k) ∙ ap with_number e ∙ told k'
 
 some_number : (k : NotKept) → number_of k ≡ 0 → ⊥
 unfolding number_of
