@@ -56,6 +56,7 @@ pub enum Phase {
     },
 }
 
+// In a hand, a hazard and a handover, as in a loaded phase, 0 is no object: 01's "0 means no object" is the form of the state.
 #[derive(Clone, Copy, Debug, Default, PartialEq, Eq)]
 pub struct Thread {
     pub hand: u8,

@@ -13,7 +13,8 @@ impl Phase {
         matches!(self, Phase::Idle)
     }
 
-    // The object that the thread carries, or 0.
+    // The object that the thread carries, or 0. This and the next are the two readings that the definitions have (`carried_by`, `scans_at`);
+    // 0 is no object there too, and the position is asked only of a thread that carries one.
     pub fn carried(self) -> u8
         ensures { result ≡ carried_by self }
     {

@@ -24,7 +24,6 @@ fn swap_in_range(z: Sizes, object: u8, position: u8) -> bool
     (1..=z.objects).contains(&object) && usize::from(position) < z.positions()
 }
 
-// A scan that returns to a protect: its own numbers, then the slot and link that it remembers.
 #[tactic(auto, unfolding(entries::specs::Phases::phase_in_range))]
 pub(crate) fn phase_in_range(z: Sizes, phase: Phase) -> bool
     ensures { result ≡ phase_in_range z phase }
@@ -40,6 +39,7 @@ pub(crate) fn phase_in_range(z: Sizes, phase: Phase) -> bool
         Phase::Draining { slot } => slot < z.slots,
         Phase::Look { object, position } => look_in_range(z, object, position),
         Phase::Swap { object, position } => swap_in_range(z, object, position),
+        // a scan that returns to a protect: its own numbers, then the slot and link that it remembers
         Phase::SweepLook {
             object,
             position,

@@ -22,11 +22,11 @@ fn room<const N: usize>() -> [u8; N]
     [0; N]
 }
 
-// Where standard error takes no more there is no one left to tell.
 fn main(rt: HostRuntime) {
     let mut text = room::<TEXT>();
     let n = read_full(&mut rt.stdin(), &mut text);
     if n == TEXT {
+        // here and below: where standard error takes no more there is no one left to tell
         let _ = eprintln!(rt; "the text is longer than 1048576 bytes; nothing was packed");
         return;
     }

@@ -31,7 +31,7 @@ pub fn read(input: &[u8]) -> Result<Option<Record>, Malformed>
             };
             Ok(Some(Record::Sizes(sizes)))
         }
-        // 41 comes before 44
+        // the mark is right, so it is not 41, which comes before 44
         [MARK, SIZES, _, _, _, _, _, _, _, _, ..] => Err(Malformed::NotZero),
         [_, _, _, _, _, _, _, _, _, _, ..] => Err(Malformed::OtherMark),
         _ => Err(Malformed::Short),

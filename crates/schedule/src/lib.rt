@@ -12,7 +12,8 @@ pub mod opening;
 use machine::{Refusal, State};
 use records::Malformed;
 
-// The machine with which a run begins, or the blank state and why the run stops before its first step.
+// The machine with which a run begins, or the blank state and why the run stops before its first step. The verdict stands beside the state
+// and not around it, since a refused start "returns the blank state" (01).
 #[derive(Clone, Copy)]
 pub struct Opened {
     pub state: State,

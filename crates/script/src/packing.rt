@@ -43,7 +43,7 @@ fn next_line(text: &[u8], at: usize) -> usize
 }
 
 // Reads the line from `at` on, and writes its record, if it says one, after the bytes that are full. A record that has no room is not
-// written. How many bytes are full stands beside the buffer: the caller lends it (fixed memory, no heap).
+// written. How many bytes are full stands beside the buffer, as in the definitions (`put`, `added_by`, `took_of`).
 #[tactic(auto, using(crate::proofs::Puts::put_none), unfolding(crate::specs::Packing::added_by, crate::specs::Packing::took_of, records::specs::Writing::answer_of))]
 fn take_line(text: &[u8], at: usize, out: &mut [u8], full: usize) -> Result<usize, Fault>
     requires { full ≤ length out.old }

@@ -9,10 +9,13 @@ mod showing;
 use building::{put_byte, put_long, put_sizes, put_take, sizes};
 use showing::show;
 
+// Room for the longest of the inputs. Each case builds what it needs at the front, and runs so many of its bytes.
+type Space = [u8; 60040];
+
 // One to nine bytes.
-fn parts_of_a_record(rt: &impl Print, space: &[u8]) {
+fn parts_of_a_record(rt: &impl Print, space: &Space) {
     for size in 1..10 {
-        show(rt, "part of a record", space, size);
+        show(rt, "part of a record", &space[..size]);
     }
 }
 
@@ -37,45 +40,47 @@ const LATE: [(&str, usize); 6] = [
 
 fn ends(rt: &impl Print, space: &[u8], cases: &[(&str, usize)]) {
     for &(name, size) in cases {
-        show(rt, name, space, size);
+        if let Some(input) = space.get(..size) {
+            show(rt, name, input);
+        }
     }
 }
 
 // Another record after 6,000 steps: its own 41 or 44 comes before 42 and 43.
-fn other_record_last(rt: &impl Print, space: &mut [u8]) {
+fn other_record_last(rt: &impl Print, space: &mut Space) {
     put_sizes(space, 60010, sizes(2, 1, 1, 2));
-    show(rt, "6,000 steps and sizes", space, 60020);
+    show(rt, "6,000 steps and sizes", &space[..60020]);
     put_byte(space, 60019, 1);
-    show(rt, "6,000 steps and bad sizes", space, 60020);
+    show(rt, "6,000 steps and bad sizes", &space[..60020]);
     put_take(space, 60010, 0);
     put_byte(space, 60011, 74);
-    show(rt, "6,000 steps and another mark", space, 60020);
+    show(rt, "6,000 steps and another mark", &space[..60020]);
 }
 
 // The second record is no step.
-fn other_record_second(rt: &impl Print, space: &mut [u8]) {
+fn other_record_second(rt: &impl Print, space: &mut Space) {
     put_sizes(space, 10, sizes(2, 1, 1, 2));
-    show(rt, "sizes twice", space, 20);
+    show(rt, "sizes twice", &space[..20]);
     put_byte(space, 16, 1);
-    show(rt, "sizes and bad sizes", space, 20);
+    show(rt, "sizes and bad sizes", &space[..20]);
     put_byte(space, 10, 83);
-    show(rt, "sizes and another mark", space, 20);
+    show(rt, "sizes and another mark", &space[..20]);
 }
 
 // The first record is no sizes record, or is none at all.
-fn other_record_first(rt: &impl Print, space: &mut [u8]) {
+fn other_record_first(rt: &impl Print, space: &mut Space) {
     put_take(space, 0, 0);
-    show(rt, "a step first", space, 20);
+    show(rt, "a step first", &space[..20]);
     put_byte(space, 1, 74);
-    show(rt, "another mark first", space, 20);
+    show(rt, "another mark first", &space[..20]);
     put_sizes(space, 0, sizes(2, 1, 1, 0));
     put_byte(space, 8, 1);
-    show(rt, "bad sizes first", space, 20);
+    show(rt, "bad sizes first", &space[..20]);
 }
 
 // A size below its range, and above it; the least sizes, and the largest. After each two takes, by the first thread that there may be and by
 // the last.
-fn each_size(rt: &impl Print, space: &mut [u8]) {
+fn each_size(rt: &impl Print, space: &mut Space) {
     let cases = [
         ("T = 0", sizes(0, 1, 1, 2)),
         ("T = 9", sizes(9, 1, 1, 2)),
@@ -92,14 +97,14 @@ fn each_size(rt: &impl Print, space: &mut [u8]) {
         put_sizes(space, 0, record);
         put_take(space, 10, 0);
         put_take(space, 20, 7);
-        show(rt, name, space, 30);
+        show(rt, name, &space[..30]);
     }
 }
 
 fn main(rt: HostRuntime) {
-    let mut space = [0u8; 60040];
+    let mut space: Space = [0; 60040];
     put_long(&mut space);
-    show(&rt, "no bytes", &space, 0);
+    show(&rt, "no bytes", &space[..0]);
     parts_of_a_record(&rt, &space);
     ends(&rt, &space, &EARLY);
     ends(&rt, &space, &LATE);

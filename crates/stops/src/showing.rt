@@ -16,16 +16,16 @@ fn last_line(text: &[u8]) -> &[u8] {
     }
 }
 
-// Runs the first bytes of a space as an input, and tells in a line of the case, its bytes, how many lines its text has, and the last of
-// them. Of a size beyond the space it prints nothing.
-pub(crate) fn show(rt: &impl Print, name: &str, space: &[u8], size: usize) {
-    let Some(input) = space.get(..size) else {
-        return;
-    };
+// Runs an input, and tells in a line of the case, its bytes, how many lines its text has, and the last of them.
+pub(crate) fn show(rt: &impl Print, name: &str, input: &[u8]) {
     // room for every run, as `lines::run` asks
     let mut out = [0u8; lines::ROOM];
     let n = lines::run(input, &mut out);
     let text = &out[..n];
-    let _ = print!(rt; "{name}: {size} bytes, {} lines, ", count_lines(text));
+    let _ = print!(rt;
+        "{name}: {} bytes, {} lines, ",
+        input.len(),
+        count_lines(text)
+    );
     let _ = rt.write_all(last_line(text));
 }

@@ -1,4 +1,5 @@
-// A lent buffer and the place in it where the next byte goes.
+// A lent buffer and the place in it where the next byte goes. How much room there is is asked for in clauses (`HasRoom`) and not in the type:
+// a ghost field beside a `&mut` is not covered.
 ghost use Rattle.std.specs.Prelude.{◌≡◌, ◌-◌, ◌≤◌, [], ◌∷◌, SomeIff, length};
 ghost use Rattle.text.specs.Paged.{HasRoom, Wrote, PutWholeOn};
 
