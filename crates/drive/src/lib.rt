@@ -5,29 +5,22 @@ mod mixing;
 
 use machine::State;
 use mixing::{mixed_answer, mixed_places};
-use records::reading::rest;
-use schedule::going::next;
+use schedule::going::Calls;
 use schedule::opening::open;
 
-// The checksum of the answers to the calls at the front of the input, and, where the run ends and does not stop, of the five places after
-// them.
+// The checksum of the answers to an input's calls, and, where the run ends and does not stop, of the five places after them.
 fn steps(input: &[u8], state: State) -> u64 {
     let mut sum = 0;
     let mut now_at = state;
-    let mut left = input;
-    for done in 0..=6000 {
-        let Ok(found) = next(left, done) else {
-            return sum;
-        };
+    let mut calls = Calls::new(input);
+    while let Ok(found) = calls.next() {
         let Some(call) = found else {
             return mixed_places(sum, now_at.count().places);
         };
         let outcome = now_at.step(call);
         sum = mixed_answer(sum, outcome.answer);
         now_at = outcome.state;
-        left = rest(left);
     }
-    // not reached: no 6,001st call comes
     sum
 }
 
@@ -39,5 +32,5 @@ pub extern "C" fn drive_schedule(input: &[u8]) -> u64 {
     let Ok(()) = opened.verdict else {
         return 0;
     };
-    steps(rest(input), opened.state)
+    steps(input, opened.state)
 }

@@ -6,7 +6,6 @@ ghost use Rattle.text.specs.Paged.{HasRoom, Wrote};
 
 use crate::steps::put_steps;
 use crate::told::{put_sizes, put_stop};
-use records::reading::rest;
 use schedule::opening::open;
 use text::page::Page;
 
@@ -19,7 +18,7 @@ pub(crate) fn put_text(input: &[u8], page: &mut Page<'_>)
     match opened.verdict {
         Ok(()) => {
             put_sizes(page, opened.state.sizes);
-            put_steps(rest(input), page, opened.state);
+            put_steps(input, page, opened.state);
         }
         Err(stop) => put_stop(page, 0, stop.number()),
     }

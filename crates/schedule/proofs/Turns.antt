@@ -2,7 +2,7 @@
 use Prim.Native.Nat.{ℕ, suc, ◌+◌, ◌-◌, ◌≤◌, ◌<◌}
 use native.Mathlib.Omega.{arith}
 use Rattle.std.specs.Prelude.{◌≡◌, refl, List, length, ltb, Result, Ok, Err, Some, None}
-use Rattle.std.proofs.Common.{ltb-true}
+use Rattle.std.proofs.Common.{ltb-true, sym, ◌∙◌}
 use Rattle.basics.specs.Tests.{by_test, clash}
 use Rattle.entries.specs.Sizes.{in_range}
 use Rattle.machine.specs.declared.State.{State}
@@ -19,7 +19,7 @@ use Rattle.schedule.specs.declared.Stop.TheVariants.{TooManySteps}
 use Rattle.schedule.specs.Said.{sizes_of}
 use Rattle.schedule.specs.Input.{calls_up_to, after, ending_at, Input, run, no_run, sized, begun, input_of}
 use Rattle.schedule.specs.Opening.{unopened, first_at, first_of, verdict_of, opened_by, opened_of}
-use Rattle.schedule.specs.Going.{Next, next_at, next_of}
+use Rattle.schedule.specs.Going.{Next, next_at, next_of, left_after, steps_after}
 use Rattle.schedule.specs.Stopping.{stop_number}
 use Rattle.schedule.specs.Asked.{found_at, found_from}
 
@@ -46,6 +46,29 @@ module _ (steps : ℕ) (left : List ℕ) where
   found_next stands e l =
       let asked : 6001 - steps ≡ suc (6001 - (steps + 1)) = omega arith in
       rw (asked, e)
+
+steps_within : (steps : ℕ) (left : List ℕ) (found : Next) → next_of steps left ≡ found → steps ≤ 6000 → steps_after found steps ≤ 6000
+unfolding steps_after
+steps_within steps left (Ok (Some c)) e l = omega (arith, call_room steps left c e)
+steps_within steps left (Ok None) e l = l
+steps_within steps left (Err why) e l = l
+
+-- what a cursor over the calls gives, and where it stands then
+module _ (steps then : ℕ) (left rest : List ℕ) (found : Next) (gives : found ≡ next_of steps left) (on : rest ≡ left_after found left) (count : then ≡ steps_after found steps) where
+  pub count_within : steps ≤ 6000 → then ≤ 6000
+  count_within l = rw count (steps_within steps left found (sym gives) l)
+
+  pub call_passed : (c : Call) → found ≡ Ok (Some c) → (next_of steps left ≡ Ok (Some c)) × (rest ≡ rest_of left) × (then ≡ steps + 1)
+  unfolding left_after steps_after
+  call_passed c e = (sym gives ∙ e, rw e at on, rw e at count)
+
+  pub end_stays : found ≡ Ok None → (next_of steps left ≡ Ok None) × (then ≡ steps)
+  unfolding steps_after
+  end_stays e = (sym gives ∙ e, rw e at count)
+
+  pub stop_stays : (why : Stop) → found ≡ Err why → (next_of steps left ≡ Err why) × (then ≡ steps)
+  unfolding steps_after
+  stop_stays why e = (sym gives ∙ e, rw e at count)
 
 -- what an input says, by what was opened
 abbrev SaysAt : Result (Unit {0}) Stop → State → Input → List ℕ → Type 0

@@ -3,9 +3,8 @@ ghost use Rattle.std.specs.Prelude.{◌≡◌, MatchResult};
 ghost use Rattle.sentences.specs.Ends.{ended, stopped, end_of};
 
 use machine::State;
-use records::reading::rest;
 use schedule::Stop;
-use schedule::going::next;
+use schedule::going::Calls;
 use schedule::opening::open;
 
 // The state with which the run over this input ends, or why it stops.
@@ -15,13 +14,9 @@ pub(crate) fn end(input: &[u8]) -> Result<State, Stop>
     let opened = open(input);
     opened.verdict?;
     let mut now_at = opened.state;
-    let mut left = rest(input);
-    // counted by hand: a range of steps would have an end that no run reaches
-    let mut steps: u32 = 0;
-    while let Some(call) = next(left, steps)? {
+    let mut calls = Calls::new(input);
+    while let Some(call) = calls.next()? {
         now_at = now_at.step(call).state;
-        left = rest(left);
-        steps += 1;
     }
     Ok(now_at)
 }

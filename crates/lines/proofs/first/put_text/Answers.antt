@@ -10,7 +10,7 @@ put_steps-requires c =
     (omega (arith, sizes.within, sizes.wrote.written.next), omega (arith, length_after sizes.wrote (omega (arith, sizes.within))))
 
 pub returns-in-Ok : goal.returns-in-Ok
-returns-in-Ok c = rw (good_text_lem _ _ c.open-opened.ensures c.in-Ok.is, ← c.rest.ensures)
+returns-in-Ok c = rw (good_text_lem _ _ c.open-opened.ensures c.in-Ok.is)
     (then c.put_sizes.ensures.wrote (omega (arith, c.put_sizes.ensures.within, c.requires)) c.put_steps.ensures)
 
 pub returns-in-Err : goal.returns-in-Err
