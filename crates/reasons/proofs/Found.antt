@@ -1,16 +1,22 @@
 -- The first of the numbers under n that passes, as a loop or a search over the range finds it.
 use Rattle.std.specs.Prelude.{ℕ, ◌*◌, ◌<◌, ◌≤◌, ◌≡◌, Bool, true, false, Option, None, Some, MatchOption, List, ⊤}
-use Rattle.std.proofs.Common.{arith, sym, Bor, zero-le, ⊎_elim, subst, ltb}
+use Rattle.std.proofs.Common.{arith, sym, ap, ◌∙◌, get_or, length, IsSome, ⊎_elim, subst, ltb}
 use native.Mathlib.Nat.{mul-le-mul_right}
 use borrow.Author.Tests.{lt-ltb, le-ltb, ltb-true, ltb-false}
 use Rattle.basics.specs.Tests.{tested}
 use Rattle.basics.specs.First.{first, first_is, first_none}
+use denote.Ref.{Bor}
 use Rattle.std.specs.declared.ops.Range.{Range}
+use Rattle.std.specs.Iterator.Adapters.{zip_first, zip_second}
+use Rattle.std.specs.Slice.Iter.{iter_rest}
+use Rattle.std.proofs.lemmas.List.{get_or_default}
+use Rattle.std.proofs.lemmas.List.FromFn.{length-range_with_len, get_or-range_with_len}
+use Rattle.std.proofs.lemmas.Slice.Zip.{length-zip, get_or-zip}
 use Rattle.std.specs.Fn.{CalledAt}
 use Rattle.std.specs.Iterator.{YieldsThen}
-use Rattle.std.specs.List.{FoldsTo}
-use Rattle.std.proofs.iter.Yields.{nat_range_steps}
-use Rattle.std.proofs.lemmas.Iterator.{first_from_Range}
+use Rattle.std.specs.List.{FoldsTo, AllWithin, HoldsAt, range_with_len, zip}
+use Rattle.std.proofs.iter.Yields.{nat_range_steps, fronts}
+use Rattle.std.proofs.lemmas.Iterator.{first_from_find, zips, YieldsList-from_zip, YieldsList-from_range, YieldsList-from_slice}
 use denote.Param.Members.{Mut}
 use Rattle.reasons.specs.Reasons.{found}
 
@@ -24,14 +30,6 @@ module _ (n : ℕ) (test : ℕ → Bool) where
 
   pub found_nowhere : ((j : ℕ) → j < n → test j ≡ false) → None ≡ found n test
   found_nowhere none = rw (first_none test n none, le-ltb n n (omega arith))
-
-  by_cases :
-      (r : Option ℕ) →
-      MatchOption r ((k : ℕ) → 0 ≤ k → k < n → test k ≡ false)
-      (λ i. (0 ≤ i) × (i < n) × (test i ≡ true) × ((k : ℕ) → 0 ≤ k → k < i → test k ≡ false)) →
-      r ≡ found n test
-  by_cases None h = found_nowhere (λ j. h j zero-le)
-  by_cases (Some i) h = found_at i h.1 h.2 (λ j. h.3 j zero-le)
 
   -- what is found is the first, under n
   pub found_first : (r : Option ℕ) → r ≡ found n test → (i : ℕ) → r ≡ Some i → (i < n) × (i ≡ first n test)
@@ -51,16 +49,70 @@ module _ (n : ℕ) (test : ℕ → Bool) where
       (λ (l : ltb (first n test) n ≡ false). ltb-false _ _ l)
       (tested (ltb (first n test) n))
 
-  -- what `find` over the range of these numbers ensures
-  pub found_by :
-      {F : Type 0} {g : Mut F (Bor ℕ × Unit {0}) Bool} {s : Range ℕ} (u : Range ℕ) {f : F} {r : Option ℕ} →
-      s ≡ record { start = 0; end = n } →
-      (xs : List ℕ) × (j : F) × YieldsThen nat_range_steps s xs r u × FoldsTo (λ p x q. CalledAt g p x false q) f xs j × MatchOption r ⊤ (λ x. (h : F) × CalledAt g j x true h) →
-      ((x : ℕ) (b : Bool) (q : F) → CalledAt g f x b q → (q ≡ f) × (b ≡ test x)) →
-      r ≡ found n test
-  found_by {s = s} u {f = f} {r = r} e ran calls =
-      by_cases r
-      (rw e at
-      (first_from_Range s u f r (λ x. test x ≡ true) (λ x. test x ≡ false) ran
-      (λ x q k. sym (calls x true q k).1)
-      (λ x q k. ((calls x false q k).0, sym (calls x false q k).1))))
+-- the number of a pair that was found
+abbrev pub number_of : {B : Type 0} → Option (ℕ × B) → Option ℕ
+number_of None = None
+number_of (Some x) = Some x.0
+
+pub some_number : {B : Type 0} (r : Option (ℕ × B)) → IsSome (number_of r) → IsSome r
+some_number None h = h
+some_number (Some x) h = h
+
+-- The same of a search over the entries of a list, each beside its number: the number that is found, and the entry beside it.
+module _ {A : Type 0} (n : ℕ) (xs : List A) (d : A) (test : A → Bool) where
+  abbrev beside : List (ℕ × A)
+  beside = zip (range_with_len 0 n) xs
+
+  module _ (fits : n ≤ length xs) where
+    beside_length : length beside ≡ n
+    beside_length = let l = length-range_with_len 0 n in length-zip (range_with_len 0 n) xs ∙ omega (arith, l)
+
+    beside_at : (k : ℕ) (e : ℕ × A) → k < n → get_or beside k e ≡ (k, get_or xs k d)
+    beside_at k e h =
+        let l = length-range_with_len 0 n in
+        let first_is : get_or (range_with_len 0 n) k e.0 ≡ k = omega (arith, get_or-range_with_len 0 n k e.0 h) in
+        let second_is : get_or xs k e.1 ≡ get_or xs k d = get_or_default xs k e.1 d (omega arith) in
+        get_or-zip (range_with_len 0 n) xs k e (omega (arith, l)) (omega arith) ∙ (λ i. (first_is i, second_is i))
+
+    abbrev Here : ℕ × A → Type 0
+    Here p = Some p.0 ≡ found n (λ i. test (get_or xs i d))
+
+    by_entries :
+        (r : Option (ℕ × Bor A)) →
+        MatchOption r (AllWithin (λ p. test p.1 ≡ false) beside 0 (length beside))
+        (λ x. (test x.1.now ≡ true) × (i : ℕ) × (i < length beside) × HoldsAt (λ y. y ≡ (x.0, x.1.now)) beside i × AllWithin (λ p. test p.1 ≡ false) beside 0 i) →
+        (number_of r ≡ found n (λ i. test (get_or xs i d))) × ((x : ℕ × Bor A) → r ≡ Some x → x.1.now ≡ get_or xs x.0 d)
+    by_entries None h =
+        let l = beside_length in
+        (found_nowhere n (λ i. test (get_or xs i d))
+        (λ j less. subst (λ (p : ℕ × A). test p.1 ≡ false) (beside_at j (0, d) less) (h j (0, d) (omega arith) (omega arith))),
+        λ x e. cc)
+    by_entries (Some x) h =
+        let l = beside_length in
+        let i = h.1 in
+        let less : i < n = omega (arith, h.2) in
+        let is : ◌≡◌ {A = ℕ × A} (i, get_or xs i d) (x.0, x.1.now) = sym (beside_at i (0, d) less) ∙ h.3 (0, d) in
+        let number : i ≡ x.0 = ap (λ (p : ℕ × A). p.0) is in
+        let entry : get_or xs i d ≡ x.1.now = ap (λ (p : ℕ × A). p.1) is in
+        let here : Some i ≡ found n (λ k. test (get_or xs k d)) =
+        found_at n (λ k. test (get_or xs k d)) i less (ap test entry ∙ h.0)
+        (λ j before. subst (λ (p : ℕ × A). test p.1 ≡ false) (beside_at j (0, d) (omega arith)) (h.4 j (0, d) (omega arith) before))
+        in
+        let same : x.1.now ≡ get_or xs x.0 d = sym entry ∙ ap (λ (k : ℕ). get_or xs k d) number in
+        (subst (λ (k : ℕ). Some k ≡ found n (λ i. test (get_or xs i d))) number here,
+        λ y e. subst (λ (o : Option (ℕ × Bor A)). MatchOption o (Unit {0}) (λ z. z.1.now ≡ get_or xs z.0 d)) e same)
+
+    -- what `find` over the numbers under n, each with its entry, ensures: the number that is found, and that the entry is the one of that number
+    pub found_beside :
+        {F : Type 0} {g : Mut F (Bor (ℕ × Bor A) × Unit {0}) Bool} {s : _} (u : _) {f : F} {r : Option (ℕ × Bor A)} →
+        ◌≡◌ {A = Range ℕ} (zip_first s) (record { start = 0; end = n }) →
+        iter_rest (zip_second s) ≡ xs →
+        (zs : List (ℕ × Bor A)) × (j : F) × YieldsThen (zips nat_range_steps fronts) s zs r u × FoldsTo (λ p x q. CalledAt g p x false q) f zs j × MatchOption r ⊤ (λ x. (h : F) × CalledAt g j x true h) →
+        ((x : ℕ × Bor A) (b : Bool) (q : F) → CalledAt g f x b q → (q ≡ f) × (b ≡ test x.1.now)) →
+        (number_of r ≡ found n (λ i. test (get_or xs i d))) × ((x : ℕ × Bor A) → r ≡ Some x → x.1.now ≡ get_or xs x.0 d)
+    found_beside u {f = f} {r = r} e rest ran calls =
+        by_entries r
+        (first_from_find u f r (λ p. test p.1 ≡ true) (λ p. test p.1 ≡ false) ran
+        (YieldsList-from_zip (YieldsList-from_range 0 n n e (omega arith)) (YieldsList-from_slice xs rest))
+        (λ x q k. sym (calls x true q k).1)
+        (λ x q k. ((calls x false q k).0, sym (calls x false q k).1)))

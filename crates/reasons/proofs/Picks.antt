@@ -1,6 +1,7 @@
 -- Which reason the four searches pick, one after the other, each by what its search found.
 use Prim.Native.Nat.{ℕ, ◌≤◌}
-use Rattle.std.specs.Prelude.{◌≡◌, Option, None, Some, IsSome, eqb}
+use native.Mathlib.Omega.{arith}
+use Rattle.std.specs.Prelude.{◌≡◌, length, Option, None, Some, IsSome, eqb}
 use Rattle.std.proofs.Common.{sym, subst, refl}
 use borrow.Author.Tests.{lt-ltb, le-ltb}
 use Rattle.machine.specs.declared.State.{State}
@@ -23,6 +24,16 @@ module _ (s : State) (o : ℕ) where
   -- there are at most 32 positions
   pub row_limited : refusal_of s o ≡ None → positions s.sizes ≤ 32
   row_limited h = (limited h).positions
+
+  -- and each search walks no more entries than there are
+  pub links_fit : refusal_of s o ≡ None → s.sizes.links ≤ length s.links
+  links_fit h = let ranged = (to_sound s (stays s o h).sound).ranged in omega (arith, (limited h).links, ranged.shape.links)
+
+  pub threads_fit : refusal_of s o ≡ None → s.sizes.threads ≤ length s.threads
+  threads_fit h = let ranged = (to_sound s (stays s o h).sound).ranged in omega (arith, (limited h).threads, ranged.shape.threads)
+
+  pub slots_fit : refusal_of s o ≡ None → positions s.sizes ≤ length s.slots
+  slots_fit h = let ranged = (to_sound s (stays s o h).sound).ranged in omega (arith, row_limited h, ranged.shape.slots)
 
   module _ (links : Option ℕ) (el : links ≡ found s.sizes.links (λ i. eqb (link_at s i) o)) where
     pub in_link : (l : ℕ) → links ≡ Some l → Link l ≡ reason_of s o

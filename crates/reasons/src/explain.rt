@@ -35,22 +35,32 @@ fn reason_of(state: State, object: u8) -> Reason
         slots,
         ..
     } = state;
-    if let Some(link) = (0..sizes.links).find(|&i| links[usize::from(i)] == object) {
+    if let Some((link, _)) = (0..sizes.links)
+        .zip(&links)
+        .find(|&(_, &held)| held == object)
+    {
         return Reason::Link { link };
     }
-    if let Some(thread) = (0..sizes.threads).find(|&t| threads[usize::from(t)].hand == object) {
+    if let Some((thread, _)) = (0..sizes.threads)
+        .zip(&threads)
+        .find(|(_, thread)| thread.hand == object)
+    {
         return Reason::Hand { thread };
     }
-    let carrier = (0..sizes.threads).find(|&t| threads[usize::from(t)].phase.carried() == object);
-    if let Some(thread) = carrier {
-        let position = threads[usize::from(thread)].phase.scan_position();
+    let carrier = (0..sizes.threads)
+        .zip(&threads)
+        .find(|(_, thread)| thread.phase.carried() == object);
+    if let Some((thread, carrier)) = carrier {
+        let position = carrier.phase.scan_position();
         return Reason::Carried { thread, position };
     }
-    // it is in none of the first three, so it is in the last
+    // it is in none of the first three, so it is in the last: every object of a sound state that is not free is in one of the four
     let positions = sizes.threads * sizes.slots;
-    let left_with = (0..positions).find(|&p| slots[usize::from(p)].handover == object);
-    let position = left_with.unwrap();
-    let guard = guard_of(slots[usize::from(position)], object);
+    let left_with = (0..positions)
+        .zip(&slots)
+        .find(|(_, slot)| slot.handover == object);
+    let (position, slot) = left_with.unwrap();
+    let guard = guard_of(*slot, object);
     Reason::Handover { position, guard }
 }
 

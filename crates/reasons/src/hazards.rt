@@ -7,7 +7,8 @@ ghost use Rattle.reasons.specs.Reasons.{found, guard_of};
 use crate::Guard;
 use entries::{Sizes, Slot};
 
-// "the first position in scan order that holds it as a hazard, or none": the slots of thread 0, then those of thread 1, and so on
+// "the first position in scan order that holds it as a hazard, or none": the slots of thread 0, then those of thread 1, and so on. A
+// nested loop over threads and slots left by a label is the form that 01 names for it.
 pub(crate) fn first_hazard(sizes: Sizes, slots: [Slot; 32], object: u8) -> Option<u8>
     requires { (sizes.threads ≤ 8) × (sizes.slots ≤ 4) }
     ensures { result ≡ found (positions sizes) (λ p. eqb (get_or slots p empty_slot).hazard object) }
