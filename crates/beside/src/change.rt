@@ -3,7 +3,7 @@ use crate::dice::Seed;
 use crate::draw;
 use crate::plan::Plan;
 use crate::totals::{Compared, Totals};
-use entries::{Phase, Sizes, Thread};
+use entries::{Phase, Sizes};
 use machine::State;
 
 // In range, and one in eight times one past it.
@@ -167,14 +167,7 @@ fn change_size(seed: Seed, s: &mut State) {
         1 => s.sizes.slots = plain::byte(seed.pick(2, 6)),
         2 => s.sizes.links = plain::byte(seed.pick(2, 18)),
         3 => s.sizes.objects = plain::byte(seed.pick(2, 256)),
-        _ => {
-            s.sizes = Sizes {
-                threads: 0,
-                slots: 0,
-                links: 0,
-                objects: 0,
-            };
-        }
+        _ => s.sizes = Sizes::default(),
     }
 }
 

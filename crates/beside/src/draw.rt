@@ -1,16 +1,14 @@
 // The calls of the schedules, each worked out from the schedule's seed and what the twin's threads are doing.
 use crate::dice::Seed;
 use crate::plan::{Plan, Style};
-use plain::{Operation, Order};
+use plain::{Operation, Order, Sizes};
 use twin::Twin;
 
 fn go_on(thread: usize) -> Order {
     Order {
         thread,
         operation: Operation::GoOn as usize,
-        slot: 0,
-        link: 0,
-        tag: 0,
+        ..Order::default()
     }
 }
 
@@ -44,8 +42,7 @@ struct Seen {
     thread: usize,
     busy: bool,
     full: bool,
-    slots: usize,
-    links: usize,
+    sizes: Sizes,
 }
 
 impl Seen {
@@ -54,8 +51,7 @@ impl Seen {
             thread,
             busy: w.busy(thread),
             full: w.holds(thread),
-            slots: w.slots,
-            links: w.links,
+            sizes: w.sizes,
         }
     }
 
@@ -73,10 +69,10 @@ impl Seen {
             slot: match operation {
                 Operation::Take | Operation::Retire => 0,
                 Operation::Swap if seed.once_in(4, 3) => 255,
-                _ => seed.pick(3, self.slots),
+                _ => seed.pick(3, self.sizes.slots),
             },
             link: match operation {
-                Operation::Protect | Operation::Swap if !low => seed.pick(6, self.links),
+                Operation::Protect | Operation::Swap if !low => seed.pick(6, self.sizes.links),
                 _ => 0,
             },
             tag: match operation {
@@ -108,7 +104,7 @@ fn dull(o: Order, full: bool, w: &Twin) -> bool {
 fn accepted(seed: Seed, first: usize, loyal: bool, w: &Twin) -> Order {
     for k in 0..8 {
         let own = seed.mix(k);
-        let any = own.pick(0, w.threads);
+        let any = own.pick(0, w.sizes.threads);
         let stay = k < 4 && (loyal || !own.once_in(7, 4));
         let about = Seen::of(if stay { first } else { any }, w);
         let order = about.sensible(own);
@@ -120,7 +116,7 @@ fn accepted(seed: Seed, first: usize, loyal: bool, w: &Twin) -> Order {
             return order;
         }
     }
-    Seen::of(seed.pick(0, w.threads), w).sensible(seed)
+    Seen::of(seed.pick(0, w.sizes.threads), w).sensible(seed)
 }
 
 // In range, one past it, or 255.
@@ -135,10 +131,10 @@ fn near(seed: Seed, index: usize, n: usize) -> usize {
 
 fn rough(seed: Seed, w: &Twin) -> Order {
     Order {
-        thread: near(seed, 0, w.threads),
+        thread: near(seed, 0, w.sizes.threads),
         operation: seed.pick(1, 9),
-        slot: near(seed, 2, w.slots),
-        link: near(seed, 3, w.links),
+        slot: near(seed, 2, w.sizes.slots),
+        link: near(seed, 3, w.sizes.links),
         tag: if seed.once_in(4, 4) {
             seed.mix(5).0 as usize
         } else {
@@ -162,7 +158,7 @@ pub fn order(plan: Plan, index: usize, w: &Twin) -> Order {
     let seed = plan.seed.mix(index);
     let loyal = plan.style == Style::Loyal;
     let turn = if loyal { index / 12 } else { index / 8 };
-    let first = plan.seed.pick(turn + 1000, w.threads);
+    let first = plan.seed.pick(turn + 1000, w.sizes.threads);
     let k = seed.pick(40, 32);
     match plan.style {
         Style::Wild if k < 24 => wild(seed),

@@ -1,5 +1,6 @@
 // The schedules: sizes, length and style, each worked out from the schedule's number.
 use crate::dice::Seed;
+use plain::Sizes;
 use twin::{Trap, Twin};
 
 pub const SCHEDULES: usize = 6144;
@@ -12,14 +13,6 @@ pub enum Style {
     Wild,
     // Sensible calls, one thread for many on end.
     Loyal,
-}
-
-#[derive(Clone, Copy, Debug, PartialEq, Eq)]
-pub struct Sizes {
-    pub threads: usize,
-    pub slots: usize,
-    pub links: usize,
-    pub objects: usize,
 }
 
 #[derive(Clone, Copy, Debug, PartialEq, Eq)]
@@ -47,44 +40,33 @@ fn some(seed: Seed, index: usize, n: usize) -> usize {
     seed.pick(index, n).saturating_add(1)
 }
 
-impl Sizes {
-    const fn new(threads: usize, slots: usize, links: usize, objects: usize) -> Sizes {
-        Sizes {
-            threads,
-            slots,
-            links,
-            objects,
-        }
+// Sizes up to these.
+fn drawn(most: Sizes, seed: Seed) -> Sizes {
+    Sizes {
+        threads: some(seed, 1, most.threads),
+        slots: some(seed, 2, most.slots),
+        links: some(seed, 3, most.links),
+        objects: some(seed, 4, most.objects),
     }
+}
 
-    // Sizes up to these.
-    fn drawn(self, seed: Seed) -> Sizes {
-        Sizes {
-            threads: some(seed, 1, self.threads),
-            slots: some(seed, 2, self.slots),
-            links: some(seed, 3, self.links),
-            objects: some(seed, 4, self.objects),
-        }
+// Any bytes, in range or out of it.
+fn wild(seed: Seed) -> Sizes {
+    Sizes {
+        threads: seed.pick(1, 11),
+        slots: seed.pick(2, 6),
+        links: seed.pick(3, 18),
+        objects: seed.pick(4, 256),
     }
+}
 
-    // Any bytes, in range or out of it.
-    fn wild(seed: Seed) -> Sizes {
-        Sizes {
-            threads: seed.pick(1, 11),
-            slots: seed.pick(2, 6),
-            links: seed.pick(3, 18),
-            objects: seed.pick(4, 256),
-        }
-    }
-
-    // Two or three threads with a slot or two each that meet on a link or two.
-    fn meeting(seed: Seed) -> Sizes {
-        Sizes {
-            threads: some(seed, 1, 2).saturating_add(1),
-            slots: some(seed, 2, 2),
-            links: some(seed, 3, 2),
-            objects: some(seed, 4, 3).saturating_add(2),
-        }
+// Two or three threads with a slot or two each that meet on a link or two.
+fn meeting(seed: Seed) -> Sizes {
+    Sizes {
+        threads: some(seed, 1, 2).saturating_add(1),
+        slots: some(seed, 2, 2),
+        links: some(seed, 3, 2),
+        objects: some(seed, 4, 3).saturating_add(2),
     }
 }
 
@@ -98,12 +80,12 @@ impl Plan {
         let style = Style::of(number, 3 < kind);
         let largest = Sizes::new(8, 4, 16, 240);
         let (sizes, length) = match kind {
-            _ if style == Style::Wild && number % 2 == 0 => (Sizes::wild(seed), 16),
-            0 => (Sizes::new(3, 2, 2, 4).drawn(seed), 64),
-            1 => (Sizes::new(4, 4, 3, 10).drawn(seed), 80),
-            2 => (largest.drawn(seed), 96),
+            _ if style == Style::Wild && number % 2 == 0 => (wild(seed), 16),
+            0 => (drawn(Sizes::new(3, 2, 2, 4), seed), 64),
+            1 => (drawn(Sizes::new(4, 4, 3, 10), seed), 80),
+            2 => (drawn(largest, seed), 96),
             3 => (largest, 160),
-            _ => (Sizes::meeting(seed), 192),
+            _ => (meeting(seed), 192),
         };
         Plan {
             seed,
@@ -124,22 +106,11 @@ impl Plan {
     }
 
     pub fn machine(self) -> machine::Started {
-        machine::start(
-            plain::byte(self.sizes.threads),
-            plain::byte(self.sizes.slots),
-            plain::byte(self.sizes.links),
-            plain::byte(self.sizes.objects),
-        )
+        compare::start(self.sizes)
     }
 
     pub fn twin(self) -> twin::Started {
-        let Sizes {
-            threads,
-            slots,
-            links,
-            objects,
-        } = self.sizes;
-        twin::start(threads, slots, links, objects)
+        twin::start(self.sizes)
     }
 
     pub fn twin_in_trap(self, trap: Option<Trap>) -> Twin {

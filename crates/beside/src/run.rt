@@ -6,14 +6,21 @@ use compare::Five;
 use machine::State;
 use plain::Operation;
 use store::Store;
-use twin::{Refusal, Twin};
+use twin::{Counts, Refusal, Twin};
 
 // The five places sum to N; those that wait are as many as the history says, and at most T × (H + 1).
-fn sums(f: Five, w: &Twin, waiting: usize) -> bool {
-    let places = [f.free, f.links, f.hands, f.handovers, f.carried];
-    places.into_iter().fold(0, usize::saturating_add) == w.objects
-        && f.handovers.saturating_add(f.carried) == waiting
-        && waiting <= w.bound()
+fn sums(counts: Counts, twin: &Twin, waiting: usize) -> bool {
+    let Counts {
+        free,
+        links,
+        hands,
+        handovers,
+        carried,
+    } = counts;
+    let places = [free, links, hands, handovers, carried];
+    places.into_iter().fold(0, usize::saturating_add) == twin.sizes.objects
+        && handovers.saturating_add(carried) == waiting
+        && waiting <= twin.bound()
 }
 
 // The states of both machines after a call, and what the store has to say of them.
@@ -22,7 +29,7 @@ fn compared(s: State, w: &Twin, store: &Store, totals: &mut Totals) {
     totals.compare(Compared::State, raw == w.raw());
     totals.compare(Compared::Holding, store.holds(&raw));
     let theirs = Five::of_first(s);
-    let same = theirs == Five::of_twin(w) && sums(theirs, w, store.waiting);
+    let same = theirs == Five::of_twin(w) && sums(theirs.counts, w, store.waiting);
     totals.compare(Compared::Count, same);
 }
 
@@ -32,7 +39,7 @@ pub fn schedule(plan: Plan, totals: &mut Totals) {
     let ours = plan.twin();
     let mut state = began.state;
     let mut w = ours.twin;
-    let mut store = Store::bare(plan.sizes.slots);
+    let mut store = Store::bare(plan.sizes);
     let refused = compare::refused(began.verdict);
     totals.start(refused);
     totals.compare(
@@ -51,10 +58,10 @@ pub fn schedule(plan: Plan, totals: &mut Totals) {
         // The machines answer the same, and a 3 says what was done.
         let said = compare::said(out.answer);
         let after = w.task_of(order.thread);
-        let fits = compare::fits(said, before, after, order.thread, w.slots);
+        let fits = compare::fits(said, before, after, order.thread, w.sizes);
         totals.answer(said);
         totals.compare(Compared::Answer, said == mine.said && fits);
-        if order.known() == Some(Operation::GoOn) && said.number < 19 {
+        if order.known() == Some(Operation::GoOn) && !said.is_refusal() {
             totals.go_on(before, said);
         }
         if let Some(agrees) = store.hear(order, said) {

@@ -3,7 +3,6 @@ use crate::kinds::{Kind, Kinds};
 use crate::plan::{Plan, SCHEDULES};
 use crate::tally::Tally;
 use crate::totals::{Compared, Totals};
-use plain::Order;
 use std::io;
 use std::ops::RangeInclusive;
 
@@ -82,13 +81,5 @@ pub fn plan(rt: &impl Print, plan: Plan) -> io::Result<()> {
     print!(rt;
         ", sizes {} {} {} {}, calls",
         sizes.threads, sizes.slots, sizes.links, sizes.objects
-    )
-}
-
-// Thread, operation, slot, link and tag, as 01 writes a step.
-pub fn order(rt: &impl Print, o: Order) -> io::Result<()> {
-    print!(rt;
-        " {} {} {} {} {};",
-        o.thread, o.operation, o.slot, o.link, o.tag
     )
 }

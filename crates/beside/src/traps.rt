@@ -90,7 +90,7 @@ fn difference(plan: Plan, trap: Trap) -> Option<Differs> {
 // The first call of a schedule, drawn for a twin in a trap, after which it does not agree with the plain store.
 fn loss(plan: Plan, trap: Trap) -> Option<usize> {
     let mut trapped = plan.twin_in_trap(Some(trap));
-    let mut store = Store::bare(plan.sizes.slots);
+    let mut store = Store::bare(plan.sizes);
     for call in 0..plan.length {
         let order = draw::order(plan, call, &trapped);
         let ours = trapped.step(order);
@@ -115,7 +115,7 @@ fn calls(rt: &impl Print, plan: Plan, w: Twin, last: usize) -> io::Result<()> {
     let mut drawer = w;
     for call in 0..=last {
         let order = draw::order(plan, call, &drawer);
-        show::order(rt, order)?;
+        print!(rt; " {order};")?;
         drawer = drawer.step(order).twin;
     }
     println!(rt; "")
@@ -128,10 +128,8 @@ fn differ(rt: &impl Print, trap: Trap) -> io::Result<()> {
     let plan = Plan::of(number);
     print!(rt; "  the machines differ at the end of schedule {number}")?;
     calls(rt, plan, plan.twin_in_trap(None), found.call)?;
-    let Said { number, a, b } = found.said;
-    print!(rt; "    answer {number} {a} {b}, in the trap")?;
-    let Said { number, a, b } = found.trapped;
-    println!(rt; " {number} {a} {b}")
+    let Differs { said, trapped, .. } = found;
+    println!(rt; "    answer {said}, in the trap {trapped}")
 }
 
 fn lose(rt: &impl Print, trap: Trap) -> io::Result<()> {

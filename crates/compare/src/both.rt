@@ -49,7 +49,7 @@ pub fn called(s: State, order: Order) -> Both {
     let w = twin::of(&raw);
     let ours = w.step(order);
     let t = order.thread;
-    let fits = work::fits(said, w.task_of(t), ours.twin.task_of(t), t, raw.slots);
+    let fits = work::fits(said, w.task_of(t), ours.twin.task_of(t), t, raw.sizes);
     Both {
         sound,
         said,

@@ -8,5 +8,5 @@ mod work;
 
 pub use both::{Both, called};
 pub use five::Five;
-pub use numbers::{call, raw, refused, said};
+pub use numbers::{call, raw, refused, said, start};
 pub use work::fits;

@@ -1,16 +1,34 @@
-// The first machine's types as plain numbers, by 01's numbering and request 7's. This table of numbers is written from the papers and
-// not read off the machine's own, since it is what the machine's is compared with.
+// The first machine's types as plain numbers, by 01's numbering and request 7's. The answers' numbers are written here anew, from the
+// papers. A refusal's is the machine's own, and is compared with the number that the twin has, or a case, each written anew too.
 use entries::Phase;
-use machine::{Answer, Call, Refusal, State, Work};
-use plain::{Doing, Order, Raw, Said, Task};
+use machine::{Answer, Call, Refusal, Started, State, Work};
+use plain::{Doing, Order, Raw, Said, Sizes, Task};
 
-pub fn call(o: Order) -> Call {
+pub fn start(sizes: Sizes) -> Started {
+    machine::start(
+        plain::byte(sizes.threads),
+        plain::byte(sizes.slots),
+        plain::byte(sizes.links),
+        plain::byte(sizes.objects),
+    )
+}
+
+fn sizes(of: entries::Sizes) -> Sizes {
+    Sizes {
+        threads: usize::from(of.threads),
+        slots: usize::from(of.slots),
+        links: usize::from(of.links),
+        objects: usize::from(of.objects),
+    }
+}
+
+pub fn call(order: Order) -> Call {
     Call {
-        thread: plain::byte(o.thread),
-        operation: plain::byte(o.operation),
-        slot: plain::byte(o.slot),
-        link: plain::byte(o.link),
-        tag: plain::word(o.tag),
+        thread: plain::byte(order.thread),
+        operation: plain::byte(order.operation),
+        slot: plain::byte(order.slot),
+        link: plain::byte(order.link),
+        tag: plain::word(order.tag),
     }
 }
 
@@ -54,71 +72,87 @@ pub fn refused(verdict: Result<(), Refusal>) -> Option<usize> {
     verdict.err().map(|refusal| usize::from(refusal.number()))
 }
 
-fn task(doing: Doing, slot: u8, link: u8, seen: u8, position: u8) -> Task {
+// A task with the slot and the link that it names.
+fn on(doing: Doing, slot: u8, link: u8) -> Task {
     Task {
         doing,
-        back: false,
         slot: usize::from(slot),
         link: usize::from(link),
-        seen: usize::from(seen),
+        ..Task::IDLE
+    }
+}
+
+// A task that carries an object, at a position.
+fn scan(doing: Doing, object: u8, position: u8) -> Task {
+    Task {
+        doing,
+        seen: usize::from(object),
         position: usize::from(position),
+        ..Task::IDLE
     }
 }
 
 // The same of a thread that returns to Published.
-fn returning(doing: Doing, slot: u8, link: u8, seen: u8, position: u8) -> Task {
+fn returning(task: Task, slot: u8, link: u8) -> Task {
     Task {
         back: true,
-        ..task(doing, slot, link, seen, position)
+        slot: usize::from(slot),
+        link: usize::from(link),
+        ..task
     }
 }
 
 fn task_of(phase: Phase) -> Task {
     match phase {
         Phase::Idle => Task::IDLE,
-        Phase::Loaded { slot, link, object } => task(Doing::Loaded, slot, link, object, 0),
-        Phase::Sweeping { slot, link } => returning(Doing::Draining, slot, link, 0, 0),
-        Phase::Published { slot, link } => task(Doing::Published, slot, link, 0, 0),
-        Phase::Draining { slot } => task(Doing::Draining, slot, 0, 0, 0),
-        Phase::Look { object, position } => task(Doing::Look, 0, 0, object, position),
-        Phase::Swap { object, position } => task(Doing::Swap, 0, 0, object, position),
+        Phase::Loaded { slot, link, object } => Task {
+            seen: usize::from(object),
+            ..on(Doing::Loaded, slot, link)
+        },
+        Phase::Published { slot, link } => on(Doing::Published, slot, link),
+        Phase::Draining { slot } => on(Doing::Draining, slot, 0),
+        Phase::Sweeping { slot, link } => Task {
+            back: true,
+            ..on(Doing::Draining, slot, link)
+        },
+        Phase::Look { object, position } => scan(Doing::Look, object, position),
+        Phase::Swap { object, position } => scan(Doing::Swap, object, position),
         Phase::SweepLook {
             object,
             position,
             slot,
             link,
-        } => returning(Doing::Look, slot, link, object, position),
+        } => returning(scan(Doing::Look, object, position), slot, link),
         Phase::SweepSwap {
             object,
             position,
             slot,
             link,
-        } => returning(Doing::Swap, slot, link, object, position),
+        } => returning(scan(Doing::Swap, object, position), slot, link),
     }
 }
 
-pub fn raw(s: State) -> Raw {
-    let sizes = s.sizes;
-    let mut r = Raw {
-        threads: usize::from(sizes.threads),
-        slots: usize::from(sizes.slots),
-        links: usize::from(sizes.links),
-        objects: usize::from(sizes.objects),
-        link: s.links,
-        tag: s.tags,
-        ..Raw::EMPTY
-    };
-    for (object, free) in (1..=240).zip(&mut r.free) {
-        *free = s.pool.is_free(object);
+pub fn raw(state: State) -> Raw {
+    let mut free = [false; 240];
+    for (object, free) in (1..=240).zip(&mut free) {
+        *free = state.pool.is_free(object);
     }
-    for (t, thread) in s.threads.iter().enumerate() {
-        r.hand[t] = thread.hand;
-        r.task[t] = task_of(thread.phase);
+    let link = state.links;
+    let tag = state.tags;
+    let hand = state.threads.map(|thread| thread.hand);
+    let task = state.threads.map(|thread| task_of(thread.phase));
+    let hazard = state.slots.map(|slot| slot.hazard);
+    let mark = state.slots.map(|slot| slot.mark);
+    let handover = state.slots.map(|slot| slot.handover);
+    Raw {
+        sizes: sizes(state.sizes),
+        link,
+        hand,
+        task,
+        hazard,
+        mark,
+        handover,
+        free,
+        tag,
     }
-    for (p, slot) in s.slots.iter().enumerate() {
-        r.hazard[p] = slot.hazard;
-        r.mark[p] = slot.mark;
-        r.handover[p] = slot.handover;
-    }
-    r
 }

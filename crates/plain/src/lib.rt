@@ -4,8 +4,10 @@
 
 mod num;
 mod raw;
+mod sizes;
 mod task;
 
-pub use num::{byte, position, put, word};
+pub use num::{byte, put, word};
 pub use raw::Raw;
-pub use task::{Doing, Operation, Order, Said, Task};
+pub use sizes::Sizes;
+pub use task::{Doing, NoOperation, Operation, Order, Said, Task};

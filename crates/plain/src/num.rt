@@ -14,13 +14,3 @@ pub fn put<T: Drop>(row: &mut [T], i: usize, value: T) {
         *there = value;
     }
 }
-
-// 01: "A slot's position is thread × H + slot". With the thread T and the slot 0 it is T × H. Where there can be no such slot it
-// is 99, past every row of slots: a position is a number that an answer tells, and not only an index that may be None.
-pub fn position(t: usize, slots: usize, slot: usize) -> usize {
-    if t < 9 && slots < 5 && slot < 4 {
-        t * slots + slot
-    } else {
-        99
-    }
-}

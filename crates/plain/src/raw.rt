@@ -1,17 +1,14 @@
 // A state as 01 lists it, in plain numbers, and 01's soundness asked of it: each object is looked for in every place.
 ghost use Rattle.std.specs.Prelude.{◌≤◌, length};
 
-use crate::num;
+use crate::sizes::Sizes;
 use crate::task::{Doing, Task};
 
 // Object o stands at o - 1 in `free` and `tag`. Rows of one number each, and no rows of threads and slots as the first machine has
 // them: soundness asks the same of each row, and a mistake in that layout is not made twice.
 #[derive(Clone, Copy, PartialEq, Eq)]
 pub struct Raw {
-    pub threads: usize,
-    pub slots: usize,
-    pub links: usize,
-    pub objects: usize,
+    pub sizes: Sizes,
     pub link: [u8; 16],
     pub hand: [u8; 8],
     pub task: [Task; 8],
@@ -36,10 +33,7 @@ fn found(xs: &[u8], object: usize) -> usize
 
 impl Raw {
     pub const EMPTY: Raw = Raw {
-        threads: 0,
-        slots: 0,
-        links: 0,
-        objects: 0,
+        sizes: Sizes::NONE,
         link: [0; 16],
         hand: [0; 8],
         task: [Task::IDLE; 8],
@@ -52,25 +46,16 @@ impl Raw {
 
     // "all sizes .. 0", or "its sizes are in range".
     fn sized(&self) -> bool {
-        let sizes = (self.threads, self.slots, self.links, self.objects);
-        sizes == (0, 0, 0, 0)
-            || (1..=8).contains(&self.threads)
-                && (1..=4).contains(&self.slots)
-                && (1..=16).contains(&self.links)
-                && (1..=240).contains(&self.objects)
-    }
-
-    pub fn positions(&self) -> usize {
-        num::position(self.threads, self.slots, 0)
+        self.sizes == Sizes::NONE || self.sizes.in_range()
     }
 
     // "all numbers above are in range .. entries beyond the sizes are 0, idle or unmarked": all but the threads' tasks. Any tag is
     // good for one of the objects.
     fn in_range(&self) -> bool {
-        let all = self.positions();
-        let n = self.objects;
-        within(&self.link, self.links, n)
-            && within(&self.hand, self.threads, n)
+        let all = self.sizes.positions();
+        let n = self.sizes.objects;
+        within(&self.link, self.sizes.links, n)
+            && within(&self.hand, self.sizes.threads, n)
             && within(&self.hazard, all, n)
             && within(&self.handover, all, n)
             && self.free.iter().skip(n).all(|&free| !free)
@@ -78,7 +63,7 @@ impl Raw {
     }
 
     fn slot_and_link(&self, task: Task) -> bool {
-        task.slot < self.slots && task.link < self.links
+        task.slot < self.sizes.slots && task.link < self.sizes.links
     }
 
     // 02: "Such a thread remembers its slot and link through the scan, and soundness asks that both are in range."
@@ -89,20 +74,20 @@ impl Raw {
     // A thread "is idle, or in one of: Loaded(slot, link, object or 0), Published(slot, link), Draining(slot), Look(object,
     // position 0 to T × H), Swap(object, position below T × H)".
     fn fits(&self, task: Task) -> bool {
-        let carries = (1..=self.objects).contains(&task.seen) && self.returns(task);
+        let carries = (1..=self.sizes.objects).contains(&task.seen) && self.returns(task);
         match task.doing {
             Doing::Idle => true,
-            Doing::Loaded => self.slot_and_link(task) && task.seen <= self.objects,
+            Doing::Loaded => self.slot_and_link(task) && task.seen <= self.sizes.objects,
             Doing::Published => self.slot_and_link(task),
-            Doing::Draining => task.slot < self.slots && self.returns(task),
-            Doing::Look => carries && task.position <= self.positions(),
-            Doing::Swap => carries && task.position < self.positions(),
+            Doing::Draining => task.slot < self.sizes.slots && self.returns(task),
+            Doing::Look => carries && task.position <= self.sizes.positions(),
+            Doing::Swap => carries && task.position < self.sizes.positions(),
         }
     }
 
     fn tasks_fit(&self) -> bool {
-        let mut used = self.task.iter().take(self.threads);
-        let mut beyond = self.task.iter().skip(self.threads);
+        let mut used = self.task.iter().take(self.sizes.threads);
+        let mut beyond = self.task.iter().skip(self.sizes.threads);
         used.all(|&task| self.fits(task)) && beyond.all(|task| task.doing == Doing::Idle)
     }
 
@@ -132,7 +117,7 @@ impl Raw {
     fn each_once(&self) -> bool {
         self.free
             .iter()
-            .take(self.objects)
+            .take(self.sizes.objects)
             .enumerate()
             .all(|(i, &free)| self.homes(free, i + 1) == 1)
     }

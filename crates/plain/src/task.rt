@@ -1,4 +1,5 @@
 // What a thread is in the middle of, a call and an answer, in plain numbers.
+use std::fmt;
 
 #[derive(Clone, Copy, Debug, PartialEq, Eq)]
 pub enum Doing {
@@ -37,7 +38,7 @@ pub enum Operation {
 }
 
 // A call. `operation` is any number, as it may come.
-#[derive(Clone, Copy, Debug, PartialEq, Eq)]
+#[derive(Clone, Copy, Debug, Default, PartialEq, Eq)]
 pub struct Order {
     pub thread: usize,
     pub operation: usize,
@@ -65,18 +66,54 @@ impl Operation {
         Operation::Clear,
         Operation::GoOn,
     ];
+}
 
-    // None where the number is no operation's.
-    pub fn of(number: usize) -> Option<Operation> {
-        Operation::ALL
-            .into_iter()
-            .find(|&operation| operation as usize == number)
+// A number that is no operation's.
+#[derive(Clone, Copy, Debug, PartialEq, Eq)]
+pub struct NoOperation;
+
+impl TryFrom<usize> for Operation {
+    type Error = NoOperation;
+
+    fn try_from(number: usize) -> Result<Self, NoOperation> {
+        let mut all = Operation::ALL.into_iter();
+        all.find(|&operation| operation as usize == number)
+            .ok_or(NoOperation)
     }
 }
 
 impl Order {
     pub fn known(self) -> Option<Operation> {
-        Operation::of(self.operation)
+        Operation::try_from(self.operation).ok()
+    }
+}
+
+// Thread, operation, slot, link and tag, as 01 writes a step.
+impl fmt::Display for Order {
+    fn fmt<W: fmt::Write>(&self, f: &mut fmt::Formatter<W>) -> fmt::Result {
+        let Order {
+            thread,
+            operation,
+            slot,
+            link,
+            tag,
+        } = self;
+        write!(f, "{thread} {operation} {slot} {link} {tag}")
+    }
+}
+
+impl Said {
+    // 01's refusals are the numbers from 19.
+    pub fn is_refusal(self) -> bool {
+        self.number >= 19
+    }
+}
+
+// Its number and two values.
+impl fmt::Display for Said {
+    fn fmt<W: fmt::Write>(&self, f: &mut fmt::Formatter<W>) -> fmt::Result {
+        let Said { number, a, b } = self;
+        write!(f, "{number} {a} {b}")
     }
 }
 

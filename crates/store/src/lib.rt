@@ -2,10 +2,10 @@
 // A record is the number of its take, from 1; 0 is no record. A schedule run beside it has at most 255 takes.
 #![tactic(auto)]
 
-use plain::{Operation, Order, Raw, Said, put};
+use plain::{Operation, Order, Raw, Said, Sizes, put};
 
 // The slot and the link that a thread's last protect named, which is listed only when it ends.
-#[derive(Clone, Copy)]
+#[derive(Clone, Copy, Default)]
 struct Protect {
     slot: usize,
     link: usize,
@@ -15,7 +15,7 @@ struct Protect {
 // thread. `waiting` is 01's "accepted retires less Freed answers".
 #[derive(Clone, Copy)]
 pub struct Store {
-    slots: usize,
+    sizes: Sizes,
     link: [u8; 16],
     hand: [u8; 8],
     slot: [u8; 32],
@@ -32,16 +32,16 @@ fn at(row: &[u8], place: usize) -> u8 {
 }
 
 impl Store {
-    pub fn bare(slots: usize) -> Store {
+    pub fn bare(sizes: Sizes) -> Store {
         Store {
-            slots,
+            sizes,
             link: [0; 16],
             hand: [0; 8],
             slot: [0; 32],
             takes: 0,
             tag: [0; 256],
             last: [0; 241],
-            protect: [Protect { slot: 0, link: 0 }; 8],
+            protect: [Protect::default(); 8],
             waiting: 0,
         }
     }
@@ -55,15 +55,11 @@ impl Store {
         self.tag[usize::from(record)] as usize
     }
 
-    fn position(&self, thread: usize, slot: usize) -> usize {
-        plain::position(thread, self.slots, slot)
-    }
-
     // What a call to the machine and its answer mean to the store: whether it gives the same answer, or None where the call is not
     // listed. "Calls are listed at these moments: take, swap, read, retire and clear when accepted; protect when it answers 4 or
     // 5." Refused calls are not listed.
     pub fn hear(&mut self, o: Order, s: Said) -> Option<bool> {
-        if s.number >= 19 {
+        if s.is_refusal() {
             return None;
         }
         match o.known() {
@@ -100,7 +96,7 @@ impl Store {
         let there = at(&self.link, o.link);
         let wanted = match o.slot {
             255 => 0,
-            slot => at(&self.slot, self.position(o.thread, slot)),
+            slot => at(&self.slot, self.sizes.position(o.thread, slot)),
         };
         if there != wanted {
             return s.number == 7;
@@ -112,7 +108,7 @@ impl Store {
     }
 
     fn read(&self, o: Order, s: Said) -> bool {
-        let record = at(&self.slot, self.position(o.thread, o.slot));
+        let record = at(&self.slot, self.sizes.position(o.thread, o.slot));
         s.number == 8 && self.tag_of(record) == s.a
     }
 
@@ -126,7 +122,7 @@ impl Store {
 
     // "clear empties the slot".
     fn clear(&mut self, o: Order, s: Said) -> bool {
-        let position = self.position(o.thread, o.slot);
+        let position = self.sizes.position(o.thread, o.slot);
         put(&mut self.slot, position, 0);
         s.number == 2
     }
@@ -151,7 +147,7 @@ impl Store {
     // "protect puts the link's record in the slot", with the same 4 or 5, and the same tag and record.
     fn protect(&mut self, thread: usize, protect: Protect, s: Said) -> bool {
         let there = at(&self.link, protect.link);
-        let position = self.position(thread, protect.slot);
+        let position = self.sizes.position(thread, protect.slot);
         put(&mut self.slot, position, there);
         if there == 0 {
             s.number == 5

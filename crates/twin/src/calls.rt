@@ -26,7 +26,7 @@ fn untidy(o: Order, operation: Operation) -> bool {
 impl Twin {
     // The operation, or the first of the refusals that do not depend on what the thread is doing.
     fn shaped(&self, o: Order) -> Result<Operation, Refusal> {
-        if o.thread >= self.threads {
+        if o.thread >= self.sizes.threads {
             return Err(Refusal::Thread);
         }
         let operation = o.known().ok_or(Refusal::Operation)?;
@@ -34,10 +34,10 @@ impl Twin {
             return Err(Refusal::UnusedField);
         }
         let wild = operation == Operation::Swap && o.slot == 255;
-        if uses_slot(operation) && o.slot >= self.slots && !wild {
+        if uses_slot(operation) && o.slot >= self.sizes.slots && !wild {
             return Err(Refusal::Slot);
         }
-        if uses_link(operation) && o.link >= self.links {
+        if uses_link(operation) && o.link >= self.sizes.links {
             return Err(Refusal::Link);
         }
         Ok(operation)
@@ -50,7 +50,7 @@ impl Twin {
             Operation::Swap => o.slot != 255,
             _ => false,
         };
-        let position = plain::position(o.thread, self.slots, o.slot);
+        let position = self.sizes.position(o.thread, o.slot);
         needed && !self.mark.get(position).copied().unwrap_or(false)
     }
 
@@ -131,7 +131,7 @@ impl Twin {
     }
 
     fn clear(mut self, t: usize, slot: usize) -> Stepped {
-        let p = plain::position(t, self.slots, slot);
+        let p = self.sizes.position(t, slot);
         let early = self.trap == Some(Trap::DrainEarly);
         self.announce(t, p, 0, early);
         let next = Task {

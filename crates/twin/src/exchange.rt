@@ -7,10 +7,7 @@ use plain::Raw;
 // the last that names it.
 pub fn of(r: &Raw) -> Twin {
     let mut w = Twin {
-        threads: r.threads,
-        slots: r.slots,
-        links: r.links,
-        objects: r.objects,
+        sizes: r.sizes,
         hazard: r.hazard,
         mark: r.mark,
         task: r.task,
@@ -43,17 +40,14 @@ impl Twin {
     // The state in plain numbers.
     pub fn raw(&self) -> Raw {
         let mut r = Raw {
-            threads: self.threads,
-            slots: self.slots,
-            links: self.links,
-            objects: self.objects,
+            sizes: self.sizes,
             hazard: self.hazard,
             mark: self.mark,
             task: self.task,
             tag: self.tag,
             ..Raw::EMPTY
         };
-        for (i, &place) in self.place.iter().enumerate().take(self.objects) {
+        for (i, &place) in self.place.iter().enumerate().take(self.sizes.objects) {
             let object = plain::byte(i + 1);
             match place {
                 Place::Nowhere => {}

@@ -38,7 +38,7 @@ impl Twin {
     // further step on that slot's handover, as Draining does". In the trap that sweeps early the object is still to be stored. The
     // two steps say the same there, so that the trap is seen by what it does and not by what it says.
     fn publish(mut self, t: usize, task: Task) -> Stepped {
-        let p = plain::position(t, self.slots, task.slot);
+        let p = self.sizes.position(t, task.slot);
         let early = self.trap == Some(Trap::SweepEarly);
         self.announce(t, p, task.seen, early);
         if self.trap == Some(Trap::MarkEarly) {
@@ -67,7 +67,7 @@ impl Twin {
 
     // "Published: read the link again."
     fn read_again(self, t: usize, task: Task) -> Stepped {
-        let p = plain::position(t, self.slots, task.slot);
+        let p = self.sizes.position(t, task.slot);
         let there = self.at(Place::link(task.link));
         if there == self.hazard_at(p) {
             return self.protected(t, p, there);
@@ -85,7 +85,7 @@ impl Twin {
     // "Draining: take the handover and put 0 there. It was 0: idle, 9 Finished (0, 0)." After a publication "it found 0, answer 3
     // and go to Published". A drain or sweep that began early has taken the handover, and stores the hazard here.
     fn drain(mut self, t: usize, task: Task) -> Stepped {
-        let p = plain::position(t, self.slots, task.slot);
+        let p = self.sizes.position(t, task.slot);
         let early = match self.trap {
             Some(Trap::SweepEarly) => task.back,
             Some(Trap::DrainEarly) => !task.back,
@@ -130,8 +130,8 @@ impl Twin {
 
     // Whether a position is one of a thread's own.
     fn owns(&self, t: usize, p: usize) -> bool {
-        let first = plain::position(t, self.slots, 0);
-        first <= p && p - first < self.slots
+        let first = self.sizes.position(t, 0);
+        first <= p && p - first < self.sizes.slots
     }
 
     // Whether a hazard after position p is the object.
@@ -144,7 +144,7 @@ impl Twin {
     fn look(self, t: usize, task: Task) -> Stepped {
         let p = task.position;
         let object = self.at(Place::carried(t));
-        if p >= plain::position(self.threads, self.slots, 0) {
+        if p >= self.sizes.positions() {
             return self.free(t, task, object);
         }
         let blind = self.trap == Some(Trap::OthersOnly) && self.owns(t, p);

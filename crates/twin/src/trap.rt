@@ -1,4 +1,5 @@
-// 01's traps, and what could go wrong in request 2, each of which a twin can be made to fall into.
+// 01's traps, and what could go wrong in request 2, each of which a twin can be made to fall into. A trap is one rule changed, so it
+// is asked for in that rule, beside the words it breaks, and the machine is not written twice.
 #[derive(Clone, Copy, Debug, PartialEq, Eq)]
 pub enum Trap {
     // "Moving on after a swap."

@@ -1,7 +1,8 @@
+// A state of the second machine, a start and a step of it, and what is read off it and put in it.
 use crate::place::Place;
 use crate::refusal::Refusal;
 use crate::trap::Trap;
-use plain::{Doing, Said, Task};
+use plain::{Doing, Said, Sizes, Task};
 
 // `trap` is the trap that this twin falls into. Object o has its place and its tag at o - 1. What Look and Swap carry is not read
 // off the task: it is the object whose place is "carried by this thread". The rows are those of a `Raw`, so that they are copied
@@ -9,10 +10,7 @@ use plain::{Doing, Said, Task};
 #[derive(Clone, Copy)]
 pub struct Twin {
     pub trap: Option<Trap>,
-    pub threads: usize,
-    pub slots: usize,
-    pub links: usize,
-    pub objects: usize,
+    pub sizes: Sizes,
     pub place: [Place; 240],
     pub tag: [u32; 240],
     pub hazard: [u8; 32],
@@ -26,6 +24,7 @@ pub struct Stepped {
     pub said: Said,
 }
 
+// A state beside the refusal, since a start that is refused "returns the blank state".
 #[derive(Clone, Copy)]
 pub struct Started {
     pub twin: Twin,
@@ -42,33 +41,35 @@ pub struct Counts {
     pub carried: usize,
 }
 
-// 01: sizes "T threads 1 to 8, H hazard slots per thread 1 to 4, L links 1 to 16, N objects 1 to 240"; any other is refused 20
-// and gives the blank state.
-pub fn start(threads: usize, slots: usize, links: usize, objects: usize) -> Started {
-    let good = (1..=8).contains(&threads)
-        && (1..=4).contains(&slots)
-        && (1..=16).contains(&links)
-        && (1..=240).contains(&objects);
-    if !good {
+// 01: "Starting with a size out of range is refused 20 and returns the blank state."
+pub fn start(sizes: Sizes) -> Started {
+    if !sizes.in_range() {
         return Started {
             twin: Twin::BLANK,
             refused: Some(Refusal::Sizes),
         };
     }
     let mut fresh = Twin {
-        threads,
-        slots,
-        links,
-        objects,
+        sizes,
         ..Twin::BLANK
     };
-    for place in fresh.place.iter_mut().take(objects) {
+    for place in fresh.place.iter_mut().take(sizes.objects) {
         *place = Place::Free;
     }
     Started {
         twin: fresh,
         refused: None,
     }
+}
+
+impl Counts {
+    pub const NONE: Counts = Counts {
+        free: 0,
+        links: 0,
+        hands: 0,
+        handovers: 0,
+        carried: 0,
+    };
 }
 
 // Where an object stands in a row. Object 0 is none, and stands past the end of every row.
@@ -79,10 +80,7 @@ fn index(object: usize) -> usize {
 impl Twin {
     pub const BLANK: Twin = Twin {
         trap: None,
-        threads: 0,
-        slots: 0,
-        links: 0,
-        objects: 0,
+        sizes: Sizes::NONE,
         place: [Place::Nowhere; 240],
         tag: [0; 240],
         hazard: [0; 32],
@@ -107,7 +105,7 @@ impl Twin {
 
     // The lowest-numbered object at a place. 01: "0 means no object".
     pub(crate) fn at(&self, wanted: Place) -> usize {
-        let mut places = self.place.iter().take(self.objects);
+        let mut places = self.place.iter().take(self.sizes.objects);
         places
             .position(|&place| place == wanted)
             .map_or(0, |i| i + 1)
@@ -130,7 +128,7 @@ impl Twin {
     {
         self.place
             .iter()
-            .take(self.objects)
+            .take(self.sizes.objects)
             .filter(|&&place| is(place))
             .count()
     }
@@ -167,7 +165,7 @@ impl Twin {
     }
 
     pub fn hazard_of(&self, t: usize, slot: usize) -> usize {
-        self.hazard_at(plain::position(t, self.slots, slot))
+        self.hazard_at(self.sizes.position(t, slot))
     }
 
     // What a thread is in the middle of, but for what it carries.
@@ -205,6 +203,7 @@ impl Twin {
 
     // T × (H + 1), the most objects that can wait to be freed.
     pub fn bound(&self) -> usize {
-        plain::position(self.threads, self.slots, 0).saturating_add(self.threads)
+        let Sizes { threads, .. } = self.sizes;
+        self.sizes.positions().saturating_add(threads)
     }
 }
