@@ -7,14 +7,16 @@ use machine::State;
 use plain::{Operation, Order};
 
 // `due` is None where the call is accepted, and `later` where no other applies. `operation` is any number, since one that is no
-// operation's is due 22. `variant` is one of eight, and a number since each line reads it for itself: which field of the call is
-// wrong and how, or what the thread is doing.
+// operation's is due 22. What is wrong is wrong by much where `far`, and otherwise by one. `unused` is the field that is not 0 where
+// 23 applies, and `doing` what the thread is in the middle of where it is not idle.
 #[derive(Clone, Copy, Debug, PartialEq, Eq)]
 pub struct Case {
     pub due: Option<Line>,
     pub later: Option<Line>,
     pub operation: usize,
-    pub variant: usize,
+    pub far: bool,
+    pub unused: Field,
+    pub doing: Doing,
 }
 
 impl Case {
@@ -23,29 +25,15 @@ impl Case {
     }
 
     fn known(self) -> Option<Operation> {
-        Operation::of(self.operation)
+        Operation::try_from(self.operation).ok()
     }
 
-    // Of a wrong field, whether it is wrong by much.
-    fn is_far(self) -> bool {
-        self.variant % 2 == 1
-    }
-
-    // The field that is not used and not 0.
-    fn unused(self) -> Field {
-        match self.variant {
-            0 | 1 => Field::Slot,
-            2 | 3 => Field::Link,
-            _ => Field::Tag,
-        }
-    }
-
-    // Each kind of doing for a thread that is not idle; for a slot that is not protected a hazard without a mark, or none.
+    // For a slot that is not protected a hazard without a mark, or none.
     fn scene(self) -> Scene {
         let goes_on = self.known() == Some(Operation::GoOn) && !self.has(Line::Idle);
         Scene {
             doing: if goes_on || self.has(Line::Busy) {
-                Doing::BUSY[self.variant % 8]
+                self.doing
             } else {
                 Doing::Idle
             },
@@ -53,7 +41,7 @@ impl Case {
                 || self.known() == Some(Operation::Retire) && !self.has(Line::HandEmpty),
             hazard: if !self.has(Line::NotProtected) {
                 Hazard::Protected
-            } else if self.is_far() {
+            } else if self.far {
                 Hazard::Empty
             } else {
                 Hazard::Unmarked
@@ -63,17 +51,17 @@ impl Case {
         }
     }
 
-    // A field that is not used, by the variant the slot, the link or the tag, is 1 or its highest bit alone. One that is used is
-    // one past its size, or as large as can be where "255 is good in swap only".
+    // A field that is not used is 1 or its highest bit alone. One that is used is one past its size, or as large as can be where
+    // "255 is good in swap only".
     fn call(self, z: Setting) -> Order {
         let mut o = z.call(self.operation);
-        let far = self.is_far();
+        let far = self.far;
         let swap = self.known() == Some(Operation::Swap);
         if self.has(Line::NoSuchThread) {
-            o.thread = z.threads;
+            o.thread = z.sizes.threads;
         }
         if self.has(Line::UnusedNotZero) {
-            match self.unused() {
+            match self.unused {
                 Field::Slot => o.slot = if far { 1 << 7 } else { 1 },
                 Field::Link => o.link = if far { 1 << 7 } else { 1 },
                 Field::Tag => o.tag = if far { 1 << 31 } else { 1 },
@@ -83,11 +71,11 @@ impl Case {
             o.slot = match far {
                 true if swap => 254,
                 true => 255,
-                false => z.slots,
+                false => z.sizes.slots,
             };
         }
         if self.has(Line::NoSuchLink) {
-            o.link = if far { 255 } else { z.links };
+            o.link = if far { 255 } else { z.sizes.links };
         }
         if self.due.is_none() && far && swap {
             o.slot = 255;
@@ -113,5 +101,5 @@ impl Case {
 // By both machines.
 fn is_accepted(s: State, o: Order) -> bool {
     let both = compare::called(s, o);
-    both.agree() && both.said.number < 19
+    both.agree() && !both.said.is_refusal()
 }

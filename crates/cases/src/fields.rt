@@ -2,9 +2,9 @@
 // that is accepted, from which each of these is one step away.
 use crate::case::Case;
 use crate::line::{Field, Line};
+use crate::stage::Doing;
 use crate::table::Table;
 use plain::Operation;
-use std::ops::Range;
 
 #[derive(Clone, Copy, Debug, PartialEq, Eq)]
 enum Row {
@@ -33,27 +33,45 @@ impl Row {
         }
     }
 
-    // The variants of a case in a row: two for each field; the eight kinds of doing; two kinds of slot that is not protected; and
-    // one call that is accepted, but of swap a second that goes without a slot, and of go on one for each kind of doing.
-    fn variants(self, operation: Operation) -> Range<usize> {
+    fn speaks_of(self, operation: Operation) -> bool {
         match self {
-            Row::Unused(field) if field.is_used_by(Some(operation)) => 0..0,
-            Row::Unused(Field::Slot) => 0..2,
-            Row::Unused(Field::Link) => 2..4,
-            Row::Unused(Field::Tag) => 4..6,
-            Row::Refused(line) if !line.speaks_of(Some(operation)) => 0..0,
-            Row::Refused(Line::Busy) => 0..8,
-            Row::Refused(_) => 0..2,
-            Row::Accepted => match operation {
-                Operation::Swap => 0..2,
-                Operation::GoOn => 0..8,
-                _ => 0..1,
+            Row::Unused(field) => !field.is_used_by(Some(operation)),
+            Row::Refused(line) => line.speaks_of(Some(operation)),
+            Row::Accepted => true,
+        }
+    }
+
+    // Where the thread is busy, a case for each kind of doing. Otherwise one that is wrong by one and one by much; of slots that are
+    // not protected, one of each kind. Of calls that are accepted there is one, but of swap a second that goes without a slot.
+    fn count(self, table: &mut Table<8, 7>, place: usize, column: usize, operation: Operation) {
+        let case = Case {
+            due: self.due(),
+            later: None,
+            operation: operation as usize,
+            far: false,
+            unused: match self {
+                Row::Unused(field) => field,
+                _ => Field::Tag,
             },
+            doing: Doing::Loaded,
+        };
+        match (self, operation) {
+            (Row::Refused(Line::Busy), _) | (Row::Accepted, Operation::GoOn) => {
+                for doing in Doing::BUSY {
+                    table.count_each(place, column, move |z| Case { doing, ..case }.is_shown(z));
+                }
+            }
+            (Row::Unused(_) | Row::Refused(_), _) | (Row::Accepted, Operation::Swap) => {
+                for far in [false, true] {
+                    table.count_each(place, column, move |z| Case { far, ..case }.is_shown(z));
+                }
+            }
+            (Row::Accepted, _) => table.count_each(place, column, move |z| case.is_shown(z)),
         }
     }
 }
 
-// A column is the operation. A count is 24 × the variants.
+// A column is the operation. A count is 24 × the cases.
 pub fn table() -> Table<8, 7> {
     let mut table = Table::new(
         "refusals seen for operations 1 to 7: 23 for the slot, the link, the tag, 24, 25, 26, 31, and 0 accepted",
@@ -61,14 +79,8 @@ pub fn table() -> Table<8, 7> {
     );
     for (place, row) in ROWS.iter().enumerate() {
         for (column, &operation) in Operation::ALL.iter().enumerate() {
-            for variant in row.variants(operation) {
-                let case = Case {
-                    due: row.due(),
-                    later: None,
-                    operation: operation as usize,
-                    variant,
-                };
-                table.count_each(place, column, |z| case.is_shown(z));
+            if row.speaks_of(operation) {
+                row.count(&mut table, place, column, operation);
             }
         }
     }

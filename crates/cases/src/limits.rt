@@ -1,14 +1,14 @@
 // Starting at both sides of both limits of each size, the three others at their limits.
-use crate::setting::{Setting, Side, Size};
+use crate::setting::{Side, Size};
 use crate::table::Table;
-use plain::Raw;
+use plain::{Raw, Sizes};
 use twin::Refusal;
 
 // "Starting with a size out of range is refused 20 and returns the blank state."
-fn is_shown(z: Setting, inside: bool) -> bool {
+fn is_shown(sizes: Sizes, inside: bool) -> bool {
     let due = if inside { None } else { Some(20) };
-    let theirs = z.start();
-    let ours = twin::start(z.threads, z.slots, z.links, z.objects);
+    let theirs = compare::start(sizes);
+    let ours = twin::start(sizes);
     let raw = compare::raw(theirs.state);
     compare::refused(theirs.verdict) == due
         && ours.refused.map(Refusal::number) == due
@@ -33,13 +33,13 @@ pub fn table() -> Table<4, 4> {
                             Size::Links => [a, b, side, c],
                             Size::Objects => [a, b, c, side],
                         };
-                        let z = Setting {
+                        let sizes = Sizes {
                             threads: Size::Threads.at(t),
                             slots: Size::Slots.at(h),
                             links: Size::Links.at(l),
                             objects: Size::Objects.at(n),
                         };
-                        table.count(row, column, is_shown(z, Side::LIMITS.contains(&side)));
+                        table.count(row, column, is_shown(sizes, Side::LIMITS.contains(&side)));
                     }
                 }
             }

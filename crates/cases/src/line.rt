@@ -1,6 +1,6 @@
 // 01's table of refusals, each line looked at by itself.
 use machine::State;
-use plain::{Operation, Order};
+use plain::{Operation, Order, Sizes};
 
 // The lines, by their numbers. An enum of its own, and not the first machine's, whose numbers would else be held to themselves.
 #[derive(Clone, Copy, Debug, PartialEq, Eq)]
@@ -28,17 +28,13 @@ pub enum Field {
 
 impl Field {
     // The column "Uses". An operation that is none uses nothing.
-    pub fn used_by(operation: Option<Operation>) -> &'static [Field] {
-        match operation {
-            Some(Operation::Take) => &[Field::Tag],
-            Some(Operation::Protect | Operation::Swap) => &[Field::Slot, Field::Link],
-            Some(Operation::Read | Operation::Clear) => &[Field::Slot],
-            Some(Operation::Retire | Operation::GoOn) | None => &[],
-        }
-    }
-
     pub fn is_used_by(self, operation: Option<Operation>) -> bool {
-        Field::used_by(operation).contains(&self)
+        match operation {
+            Some(Operation::Take) => self == Field::Tag,
+            Some(Operation::Protect | Operation::Swap) => self != Field::Tag,
+            Some(Operation::Read | Operation::Clear) => self == Field::Slot,
+            Some(Operation::Retire | Operation::GoOn) | None => false,
+        }
     }
 }
 
@@ -47,9 +43,7 @@ impl Field {
 #[derive(Clone, Copy, Debug, PartialEq, Eq)]
 pub struct Facts {
     sound: bool,
-    threads: usize,
-    slots: usize,
-    links: usize,
+    sizes: Sizes,
     busy: bool,
     full: bool,
     protected: bool,
@@ -60,12 +54,10 @@ impl Facts {
     pub fn of(s: State, o: Order) -> Facts {
         let r = compare::raw(s);
         let w = twin::of(&r);
-        let position = plain::position(o.thread, r.slots, o.slot);
+        let position = r.sizes.position(o.thread, o.slot);
         Facts {
             sound: r.sound(),
-            threads: r.threads,
-            slots: r.slots,
-            links: r.links,
+            sizes: r.sizes,
             busy: w.busy(o.thread),
             full: w.holds(o.thread),
             protected: r.mark.get(position).copied().unwrap_or(false),
@@ -113,15 +105,15 @@ impl Line {
         self.speaks_of(operation)
             && match self {
                 Line::Unsound => !f.sound,
-                Line::NoSuchThread => f.threads <= o.thread,
+                Line::NoSuchThread => f.sizes.threads <= o.thread,
                 Line::NoSuchOperation => true,
                 Line::UnusedNotZero => {
                     o.slot != 0 && !Field::Slot.is_used_by(operation)
                         || o.link != 0 && !Field::Link.is_used_by(operation)
                         || o.tag != 0 && !Field::Tag.is_used_by(operation)
                 }
-                Line::NoSuchSlot => f.slots <= o.slot && !no_slot,
-                Line::NoSuchLink => f.links <= o.link,
+                Line::NoSuchSlot => f.sizes.slots <= o.slot && !no_slot,
+                Line::NoSuchLink => f.sizes.links <= o.link,
                 Line::Busy => f.busy,
                 Line::Idle => !f.busy,
                 Line::HandFull => f.full,

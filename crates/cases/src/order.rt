@@ -4,7 +4,8 @@
 // 21 is never met with 26 or 28: beyond the sizes of a sound state a thread is idle and its hand is empty. The other pairs that
 // are never met speak of no operation in common.
 use crate::case::Case;
-use crate::line::Line;
+use crate::line::{Field, Line};
+use crate::stage::Doing;
 use crate::table::Table;
 use plain::Operation;
 
@@ -28,13 +29,16 @@ pub fn table() -> Table<12, 12> {
     for (row, &due) in Line::ALL.iter().enumerate() {
         for (column, &later) in Line::ALL.iter().enumerate().skip(row + 1) {
             for operation in 0..=8 {
-                let known = Operation::of(operation);
+                let known = Operation::try_from(operation).ok();
                 if meet(due, later, known) {
+                    let take = known == Some(Operation::Take);
                     let pair = Case {
                         due: Some(due),
                         later: Some(later),
                         operation,
-                        variant: if known == Some(Operation::Take) { 0 } else { 4 },
+                        far: false,
+                        unused: if take { Field::Slot } else { Field::Tag },
+                        doing: if take { Doing::Loaded } else { Doing::Swap },
                     };
                     table.count_each(row, column, |z| pair.is_shown(z));
                 }

@@ -186,7 +186,7 @@ fn of_size(z: Setting, size: Size, limit: Side, past: Side, bad: bool) -> Stage 
 
 // N, or where `bad` one above it.
 fn highest(z: Setting, bad: bool) -> usize {
-    z.objects.saturating_add(usize::from(bad))
+    z.sizes.objects.saturating_add(usize::from(bad))
 }
 
 // "all numbers above are in range": what is in a link, a hand, a handover, a hazard.
@@ -207,17 +207,17 @@ fn of_phase(z: Setting, doing: Doing, wrong: Wrong, bad: bool) -> Stage {
     let mut named = Named {
         slot: last.slot,
         link: last.link,
-        object: z.objects,
+        object: z.sizes.objects,
         position: if doing.looks() {
-            z.positions()
+            z.sizes.positions()
         } else {
             last.position
         },
     };
     if bad {
         match wrong {
-            Wrong::Slot => named.slot = z.slots,
-            Wrong::Link => named.link = z.links,
+            Wrong::Slot => named.slot = z.sizes.slots,
+            Wrong::Link => named.link = z.sizes.links,
             Wrong::ObjectAbove => named.object = highest(z, true),
             Wrong::NoObject => named.object = 0,
             Wrong::Position => named.position = named.position.saturating_add(1),
@@ -241,12 +241,12 @@ fn of_beyond(z: Setting, entry: Entry, bad: bool) -> Stage {
         return s;
     }
     match entry {
-        Entry::Link => s.link(z.links, above),
-        Entry::Hand => s.thread(z.threads, above, Phase::Idle),
-        Entry::Phase => s.thread(z.threads, 0, Phase::Draining { slot: 0 }),
-        Entry::Hazard => s.slot(z.positions(), 1, false, 0),
-        Entry::Mark => s.slot(z.positions(), 0, true, 0),
-        Entry::Handover => s.slot(z.positions(), 0, false, above),
+        Entry::Link => s.link(z.sizes.links, above),
+        Entry::Hand => s.thread(z.sizes.threads, above, Phase::Idle),
+        Entry::Phase => s.thread(z.sizes.threads, 0, Phase::Draining { slot: 0 }),
+        Entry::Hazard => s.slot(z.sizes.positions(), 1, false, 0),
+        Entry::Mark => s.slot(z.sizes.positions(), 0, true, 0),
+        Entry::Handover => s.slot(z.sizes.positions(), 0, false, above),
         Entry::FreeMark => s.freed(above),
         Entry::Tag => s.tag(above),
     }
@@ -255,9 +255,9 @@ fn of_beyond(z: Setting, entry: Entry, bad: bool) -> Stage {
 // The same for an object that is nowhere else: in a link, a hand, a handover beyond the sizes, or carried by a thread beyond.
 fn of_moved(z: Setting, place: Place, bad: bool) -> Stage {
     let size = match place {
-        Place::Link => z.links,
-        Place::Hand | Place::Carried => z.threads,
-        Place::Handover => z.positions(),
+        Place::Link => z.sizes.links,
+        Place::Hand | Place::Carried => z.sizes.threads,
+        Place::Handover => z.sizes.positions(),
     };
     let at = if bad { size } else { size.saturating_sub(1) };
     place.put(Stage::fresh(z).taken(1), at, 1)

@@ -1,7 +1,7 @@
-// The sizes of directed cases.
+// The sizes of directed cases, their limits, and the call that is made under them.
 use crate::line::Field;
 use machine::Started;
-use plain::{Operation, Order};
+use plain::{Operation, Order, Sizes};
 
 #[derive(Clone, Copy, Debug, PartialEq, Eq)]
 pub enum Size {
@@ -22,10 +22,7 @@ pub enum Side {
 
 #[derive(Clone, Copy, Debug, PartialEq, Eq)]
 pub struct Setting {
-    pub threads: usize,
-    pub slots: usize,
-    pub links: usize,
-    pub objects: usize,
+    pub sizes: Sizes,
 }
 
 // The last thread, slot of a thread, link and position within the sizes.
@@ -68,60 +65,48 @@ impl Side {
 }
 
 impl Setting {
-    pub const BLANK: Setting = Setting {
-        threads: 0,
-        slots: 0,
-        links: 0,
-        objects: 0,
-    };
+    pub const BLANK: Setting = Setting { sizes: Sizes::NONE };
 
     // L is T + H and N twice that: a size that was taken for another would be wrong in most settings.
     pub fn of(threads: u8, slots: u8) -> Setting {
         let links = usize::from(threads) + usize::from(slots);
         Setting {
-            threads: usize::from(threads),
-            slots: usize::from(slots),
-            links,
-            objects: 2 * links,
+            sizes: Sizes {
+                threads: usize::from(threads),
+                slots: usize::from(slots),
+                links,
+                objects: 2 * links,
+            },
         }
     }
 
-    // T × H.
-    pub fn positions(self) -> usize {
-        plain::position(self.threads, self.slots, 0)
-    }
-
     pub fn last(self) -> Last {
+        let sizes = self.sizes;
         Last {
-            thread: self.threads.saturating_sub(1),
-            slot: self.slots.saturating_sub(1),
-            link: self.links.saturating_sub(1),
-            position: self.positions().saturating_sub(1),
+            thread: sizes.threads.saturating_sub(1),
+            slot: sizes.slots.saturating_sub(1),
+            link: sizes.links.saturating_sub(1),
+            position: sizes.positions().saturating_sub(1),
         }
     }
 
     pub fn with(mut self, size: Size, n: usize) -> Setting {
         match size {
-            Size::Threads => self.threads = n,
-            Size::Slots => self.slots = n,
-            Size::Links => self.links = n,
-            Size::Objects => self.objects = n,
+            Size::Threads => self.sizes.threads = n,
+            Size::Slots => self.sizes.slots = n,
+            Size::Links => self.sizes.links = n,
+            Size::Objects => self.sizes.objects = n,
         }
         self
     }
 
     pub fn start(self) -> Started {
-        machine::start(
-            plain::byte(self.threads),
-            plain::byte(self.slots),
-            plain::byte(self.links),
-            plain::byte(self.objects),
-        )
+        compare::start(self.sizes)
     }
 
     // The call of the last thread with its last slot, the last link and the largest tag, where the operation uses them.
     pub fn call(self, operation: usize) -> Order {
-        let known = Operation::of(operation);
+        let known = Operation::try_from(operation).ok();
         let last = self.last();
         Order {
             thread: last.thread,
@@ -137,7 +122,7 @@ impl Setting {
                 0
             },
             tag: if Field::Tag.is_used_by(known) {
-                4294967295
+                u32::MAX as usize
             } else {
                 0
             },

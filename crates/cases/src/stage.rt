@@ -1,5 +1,5 @@
 // States of directed cases, built entry by entry.
-use crate::setting::Setting;
+use crate::setting::{Setting, Size};
 use entries::{Phase, Sizes, Slot, Thread};
 use machine::State;
 
@@ -93,10 +93,10 @@ impl Stage {
     // The same entries under other sizes.
     pub fn resized(mut self, z: Setting) -> Stage {
         self.state.sizes = Sizes {
-            threads: plain::byte(z.threads),
-            slots: plain::byte(z.slots),
-            links: plain::byte(z.links),
-            objects: plain::byte(z.objects),
+            threads: plain::byte(z.sizes.threads),
+            slots: plain::byte(z.sizes.slots),
+            links: plain::byte(z.sizes.links),
+            objects: plain::byte(z.sizes.objects),
         };
         self
     }
@@ -173,7 +173,7 @@ impl Scene {
         let left = if self.doing.carries() { 0 } else { 3 };
         let hazard = if self.hazard == Hazard::Empty { 0 } else { 1 };
         let objects = if self.none_free { 3 } else { 4 };
-        let stage = Stage::fresh(Setting { objects, ..z })
+        let stage = Stage::fresh(z.with(Size::Objects, objects))
             .taken(1)
             .taken(2)
             .taken(3)
