@@ -29,6 +29,7 @@ use Rattle.schedule.specs.declared.Stop.TheVariants as stop
 use Rattle.schedule.specs.Opening.{opened_of}
 use Rattle.schedule.specs.Stopping.{stop_number}
 use Rattle.schedule.specs.Going as going
+use Rattle.schedule.specs.declared.going.Calls.{Calls}
 use Rattle.lines.specs.declared.told.Numbers.{Numbers}
 use Rattle.lines.specs.Lent as lines
 use Rattle.sentences.specs.Lent as sentences
@@ -243,3 +244,13 @@ in_one_place_once object free = allowed_once _
 
 pub wide_once : Once {A = ℕ} (λ x. x)
 wide_once = allowed_once _
+
+-- ---- the calls of a run, one after the other
+
+-- what stands next, how many calls came then, and the bytes that are left
+pub calls_next_once :
+    (steps : ℕ) → LentOnce {B = going.Next × ℕ} (λ left. (going.next_of steps left, going.steps_after (going.next_of steps left) steps)) (λ left. going.left_after (going.next_of steps left) left)
+calls_next_once steps = lent_once _ _
+
+pub calls_steps_once : Once (λ (calls : Calls). calls.steps)
+calls_steps_once = allowed_once _
