@@ -48,7 +48,7 @@ impl Fields<'_> {
         })
     }
 
-    // What a line says, if it says something; the first that does has the sizes.
+    // What a line says, if it says something; the first that does has the sizes. The flag is the definition's (`line_of text at sizes`).
     #[tactic(auto, unfolding(crate::specs::Lines::line_of, crate::specs::Lines::lined))]
     pub(crate) fn record(self, sizes: bool) -> Result<Option<Record>, Fault>
         ensures { result ≡ line_of self.entry.text.now self.entry.at sizes }

@@ -1,5 +1,6 @@
 // A whole text into records in a lent buffer.
 ghost use Rattle.std.specs.Prelude.{◌≡◌, ◌+◌, ◌≤◌, ◌<◌, length, eqb};
+ghost use Rattle.std.specs.Result.{result_map_both};
 ghost use Rattle.script.specs.Lines.{line_of};
 ghost use Rattle.script.specs.Packing.{next_line, fault_of, no_room, put, added_by, took_of, pack_of, Within};
 
@@ -42,23 +43,35 @@ fn next_line(text: &[u8], at: usize) -> usize
     if end < text.len() { end + 1 } else { end }
 }
 
-// Reads the line from `at` on, and writes its record, if it says one, after the bytes that are full. A record that has no room is not
-// written. How many bytes are full stands beside the buffer, as in the definitions (`put`, `added_by`, `took_of`).
-#[tactic(auto, using(crate::proofs::Puts::put_none), unfolding(crate::specs::Packing::added_by, crate::specs::Packing::took_of, records::specs::Writing::answer_of))]
-fn take_line(text: &[u8], at: usize, out: &mut [u8], full: usize) -> Result<usize, Fault>
-    requires { full ≤ length out.old }
-    ensures took { result ≡ took_of (length out.old) full (line_of text.now at (eqb full 0)) }
-    ensures bytes { out.new ≡ put full (added_by (length out.old) full (line_of text.now at (eqb full 0))) out.old }
-{
-    let line = Fields { text, at };
-    let Some(record) = line.record(full == 0)? else {
-        return Ok(full);
-    };
-    match record {
-        Record::Sizes(sizes) => write_sizes(&mut out[full..], sizes)?,
-        Record::Step(step) => write_step(&mut out[full..], step)?,
+// A lent buffer and how many bytes at its front are full. A fact of how many may be is asked for in the clause, and not in the type: as at
+// `text::page::Page`, a ghost field beside a `&mut` is not covered.
+#[derive(Drop)]
+struct Buffer<'a> {
+    out: &'a mut [u8],
+    full: usize,
+}
+
+impl Buffer<'_> {
+    // Reads the line from `at` on, and writes its record, if it says one, after the bytes that are full. A record that has no room is not
+    // written.
+    #[tactic(auto, using(crate::proofs::Puts::put_none), unfolding(crate::specs::Packing::added_by, crate::specs::Packing::took_of, records::specs::Writing::answer_of))]
+    fn take_line(&mut self, text: &[u8], at: usize) -> Result<(), Fault>
+        requires { self.old.full ≤ length self.old.out.now }
+        ensures same { self.new.out.ghost_name ≡ self.old.out.ghost_name }
+        ensures took { result_map_both (λ _. self.new.full) (λ fault. fault) result ≡ took_of (length self.old.out.now) self.old.full (line_of text.now at (eqb self.old.full 0)) }
+        ensures bytes { self.new.out.now ≡ put self.old.full (added_by (length self.old.out.now) self.old.full (line_of text.now at (eqb self.old.full 0))) self.old.out.now }
+    {
+        let line = Fields { text, at };
+        let Some(record) = line.record(self.full == 0)? else {
+            return Ok(());
+        };
+        match record {
+            Record::Sizes(sizes) => write_sizes(&mut self.out[self.full..], sizes)?,
+            Record::Step(step) => write_step(&mut self.out[self.full..], step)?,
+        }
+        self.full += 10;
+        Ok(())
     }
-    Ok(full + 10)
 }
 
 // The records of a text, one after the other from the buffer's front; or the first line that is wrong, where the buffer has the records
@@ -68,18 +81,18 @@ pub fn pack(text: &[u8], out: &mut [u8]) -> Result<usize, Wrong>
     ensures within { Within result (length out.old) }
     ensures bytes { out.new ≡ put 0 (pack_of (length out.old) text.now).bytes out.old }
 {
+    let mut buffer = Buffer { out, full: 0 };
     let mut at = 0;
     let mut line = 1;
-    let mut full = 0;
     // by places and not by split: a fault names its word by the place in the whole text (`Word`, a public type)
     while at < text.len() {
-        full = take_line(text, at, out, full).map_err(|fault| Wrong { line, fault })?;
+        buffer.take_line(text, at).map_err(|fault| Wrong { line, fault })?;
         at = next_line(text, at);
         line += 1;
     }
-    if full == 0 {
+    if buffer.full == 0 {
         let fault = Fault::of_no_word(Why::NoSizes);
         return Err(Wrong { line, fault });
     }
-    Ok(full)
+    Ok(buffer.full)
 }
