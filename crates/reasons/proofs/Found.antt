@@ -83,10 +83,11 @@ module _ {A : Type 0} (n : ℕ) (xs : List A) (d : A) (test : A → Bool) where
         (λ x. (test x.1.now ≡ true) × (i : ℕ) × (i < length beside) × HoldsAt (λ y. y ≡ (x.0, x.1.now)) beside i × AllWithin (λ p. test p.1 ≡ false) beside 0 i) →
         (number_of r ≡ found n (λ i. test (get_or xs i d))) × ((x : ℕ × Bor A) → r ≡ Some x → x.1.now ≡ get_or xs x.0 d)
     by_entries None h =
-        let l = beside_length in
-        (found_nowhere n (λ i. test (get_or xs i d))
-        (λ j less. subst (λ (p : ℕ × A). test p.1 ≡ false) (beside_at j (0, d) less) (h j (0, d) (omega arith) (omega arith))),
-        λ x e. cc)
+        let l = beside_length in (
+          found_nowhere n (λ i. test (get_or xs i d))
+              (λ j less. subst (λ (p : ℕ × A). test p.1 ≡ false) (beside_at j (0, d) less) (h j (0, d) (omega arith) (omega arith))),
+          λ x e. cc,
+        )
     by_entries (Some x) h =
         let l = beside_length in
         let i = h.1 in
@@ -98,9 +99,10 @@ module _ {A : Type 0} (n : ℕ) (xs : List A) (d : A) (test : A → Bool) where
         found_at n (λ k. test (get_or xs k d)) i less (ap test entry ∙ h.0)
         (λ j before. subst (λ (p : ℕ × A). test p.1 ≡ false) (beside_at j (0, d) (omega arith)) (h.4 j (0, d) (omega arith) before))
         in
-        let same : x.1.now ≡ get_or xs x.0 d = sym entry ∙ ap (λ (k : ℕ). get_or xs k d) number in
-        (subst (λ (k : ℕ). Some k ≡ found n (λ i. test (get_or xs i d))) number here,
-        λ y e. subst (λ (o : Option (ℕ × Bor A)). MatchOption o (Unit {0}) (λ z. z.1.now ≡ get_or xs z.0 d)) e same)
+        let same : x.1.now ≡ get_or xs x.0 d = sym entry ∙ ap (λ (k : ℕ). get_or xs k d) number in (
+          subst (λ (k : ℕ). Some k ≡ found n (λ i. test (get_or xs i d))) number here,
+          λ y e. subst (λ (o : Option (ℕ × Bor A)). MatchOption o (Unit {0}) (λ z. z.1.now ≡ get_or xs z.0 d)) e same,
+        )
 
     -- what `find` over the numbers under n, each with its entry, ensures: the number that is found, and that the entry is the one of that number
     pub found_beside :

@@ -86,7 +86,9 @@ pub fn pack(text: &[u8], out: &mut [u8]) -> Result<usize, Wrong>
     let mut line = 1;
     // by places and not by split: a fault names its word by the place in the whole text (`Word`, a public type)
     while at < text.len() {
-        buffer.take_line(text, at).map_err(|fault| Wrong { line, fault })?;
+        buffer
+            .take_line(text, at)
+            .map_err(|fault| Wrong { line, fault })?;
         at = next_line(text, at);
         line += 1;
     }

@@ -23,8 +23,7 @@ loop-at-preserved c =
     let call = c.take_line in
     let next = c.next_line-at in
     let is_ok : call.result ≡ Ok tt = search rules in
-    let took_at = result_map_both (λ _. call.new.self.full) (λ fault. fault) in
-    (
+    let took_at = result_map_both (λ _. call.new.self.full) (λ fault. fault) in (
       call.ensures.same ∙ c.loop-at.invariant.0,
       going_on _ _ _ _ _ _ c.loop-at.invariant.1 c.loop-at-test.true _ _ _ call.ensures.bytes call.ensures.took (ap took_at is_ok) _ next.ensures.place next.ensures.later,
     )
