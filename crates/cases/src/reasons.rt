@@ -338,9 +338,10 @@ pub fn table() -> Table<10, 16> {
         [1, 2, 3, 4, 5, 6, 7, 8, 9, 10],
     );
     for (row, reasons) in REASONS.iter().enumerate() {
-        for (&reason, unsound) in reasons.iter().zip((0..16).step_by(2)) {
+        let columns = (0..16).step_by(2).zip((1..16).step_by(2));
+        for (&reason, (unsound, sound)) in reasons.iter().zip(columns) {
             reason.count(&mut table, row, unsound, true);
-            reason.count(&mut table, row, unsound + 1, false);
+            reason.count(&mut table, row, sound, false);
         }
     }
     table

@@ -8,6 +8,7 @@ use Rattle.machine.specs.Step.{step_of}
 use Rattle.machine.specs.Computing.{machine_computes}
 use Rattle.records.specs.Marks as marks
 use Rattle.records.specs.Bytes.{number_of}
+use Rattle.records.specs.Numbers.{malformed_number}
 use Rattle.records.specs.Reading as reading
 use Rattle.records.specs.Rest.{rest_after, rest_of}
 use Rattle.promise.specs.History.{history_by, state_by}
@@ -55,5 +56,5 @@ sentences_quick input = sentences_of_state input ∙ same_sentences input (input
 
 -- the definitions that such lines are computed by
 unfoldable pub printing : Unit {0}
-unfolding machine_computes unchecked marks.marked number_of reading.sizes_at reading.step_at reading.zeros_at_end reading.read_of rest_after rest_of calls_at calls_up_to after ending_at sized begun input_of history_by state_by event_line event_lines ending_line lines_of_run lines_of_input quick_lines quick_sentences
+unfolding machine_computes unchecked marks.marked number_of malformed_number reading.sizes_at reading.step_at reading.zeros_at_end reading.read_of rest_after rest_of calls_at calls_up_to after ending_at sized begun input_of history_by state_by event_line event_lines ending_line lines_of_run lines_of_input quick_lines quick_sentences
 printing = tt
