@@ -1,4 +1,7 @@
 // Says in words what is wrong with a line.
+ghost use Rattle.std.specs.Prelude.{Some};
+ghost use Rattle.pack.specs.Quoting.{quoted};
+
 use script::{Fault, Place, Why, Wrong};
 use std::fmt;
 
@@ -38,6 +41,8 @@ const STEP: &str = "a step is a thread, an operation and, where not 0, slot, lin
 struct Quoted<'a>(Option<&'a [u8]>);
 
 impl fmt::Display for Quoted<'_> {
+    ghost output = { λ q. Some (quoted q.0) };
+
     fn fmt<W: fmt::Write>(&self, f: &mut fmt::Formatter<W>) -> fmt::Result {
         let Some(word) = self.0 else {
             return Ok(());
