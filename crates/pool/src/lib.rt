@@ -8,7 +8,7 @@ ghost use Rattle.std.specs.Prelude.{◌≡◌, suc, false, not, ◌&&◌, ◌||�
 ghost use Rattle.basics.specs.Under.{all_under};
 ghost use Rattle.pool.specs.Pool.{pool_of, is_free, object_of, next_of, fresh_pool, marked_at, taken_out, put_back, free_count, each_once};
 
-use marks::{each_once, first_marked, first_on, off_from};
+use marks::{are_on, each_once, first_marked, first_on, off_from};
 
 // A mark for each object: object 1 has the first.
 #[derive(Clone, Copy)]
@@ -80,7 +80,7 @@ impl Pool {
     pub fn count(self) -> u8
         ensures { result ≡ free_count self }
     {
-        self.marks.iter().filter(|&&mark| mark).count() as u8
+        are_on(&self.marks)
     }
 }
 

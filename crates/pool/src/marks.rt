@@ -1,6 +1,6 @@
 // The marks of a pool, one after the other.
 ghost use Rattle.std.specs.Prelude.{◌≡◌, false, not, ◌||◌, suc, ◌+◌, ◌≤◌, get_or, ltb, eqb, position};
-ghost use Rattle.basics.specs.Counts.{bit, count_under};
+ghost use Rattle.basics.specs.Counts.{bit, count_under, how_many};
 ghost use Rattle.basics.specs.Under.{all_under};
 ghost use Rattle.pool.specs.Pool.{marked};
 
@@ -21,6 +21,18 @@ pub(crate) fn first_on(marks: &[bool; 240]) -> Option<usize>
     ensures { result ≡ position (λ mark. mark) marks.now }
 {
     marks.iter().position(|&mark| mark)
+}
+
+// Counted in one byte by a loop, so that many marks are taken at once: by `filter` and `count`, which count in eight bytes and go mark by
+// mark, it took some forty times the instructions.
+pub(crate) fn are_on(marks: &[bool; 240]) -> u8
+    ensures { result ≡ how_many (λ mark. mark) marks.now }
+{
+    let mut n = 0;
+    for &mark in marks {
+        n += u8::from(mark);
+    }
+    n
 }
 
 // Every mark from n on is looked at, so that many are taken at once; `all` would leave at the first that is on.
