@@ -54,14 +54,12 @@ impl Fields<'_> {
         ensures { result ≡ line_of self.entry.text.now self.entry.at sizes }
     {
         let word = word_at(self.text, self.at);
-        if word.from == word.to {
-            return Ok(None);
-        }
-        let record = if sizes {
-            Record::Sizes(self.sizes()?)
+        Ok(if word.from == word.to {
+            None
+        } else if sizes {
+            Some(Record::Sizes(self.sizes()?))
         } else {
-            Record::Step(self.step()?)
-        };
-        Ok(Some(record))
+            Some(Record::Step(self.step()?))
+        })
     }
 }

@@ -36,8 +36,12 @@ impl Run {
 pub fn past(text: &[u8], at: usize, run: Run) -> usize
     ensures { result ≡ at + run_of run (drop at text.now) }
 {
-    let rest = text.get(at..).unwrap_or(&[]);
-    at + rest.iter().take_while(|b| run.takes(Kind::of(**b))).count()
+    for i in at..text.len() {
+        if !run.takes(Kind::of(text[i])) {
+            return i;
+        }
+    }
+    at.max(text.len())
 }
 
 // The first word from `at` on.

@@ -1,22 +1,25 @@
--- `past` meets its contract: from `at` on `take_while` takes the run.
-use Rattle.std.proofs.Common.{rules, tests, refl, ◌≡◌, ◌∙◌, ◌-◌, length, drop, length-drop, arith}
-use Rattle.std.proofs.lemmas.Iterator.{YieldsList-from_slice}
-use Rattle.std.proofs.lemmas.Iterator.Consumers.{count_from_yields_List}
-use Rattle.std.proofs.lemmas.Iterator.Search.{YieldsList-from_take_while}
-use Rattle.std.proofs.Math.Seq.{take_all}
-use Rattle.words.specs.Words.{kind_of, goes_on}
-use Rattle.words.proofs.Parts.{got}
-use Rattle.words.proofs.Runs.{run_taken}
+-- `past` meets its contract: a byte of the run is passed, and the first that is none ends it.
+use Rattle.std.proofs.Common.{◌≡◌, ◌+◌, sym, ◌∙◌, arith}
+use native.Mathlib.Numerals.{add-one}
+use Rattle.words.proofs.Runs.{run_stops, run_more, run_past}
 use Rattle.words.proofs.finding.past.Goals as goal
+
+pub returns-then-not-takes : goal.returns-then-not-takes
+returns-then-not-takes c =
+    let at = c.loop-i in
+    let args = c.args in
+    let stop = run_stops args.run args.text.now at.i (omega arith) (rw c.of.ensures at (sym c.takes.ensures ∙ c.if-not-takes.true)) in
+    omega (arith, at.invariant, stop)
+
+pub loop-i-preserved : goal.loop-i-preserved
+loop-i-preserved c =
+    let at = c.loop-i in
+    let args = c.args in
+    let more = run_more args.run args.text.now at.i (omega arith) (rw c.of.ensures at (sym c.takes.ensures ∙ c.if-not-takes.false)) in
+    rw add-one (omega (arith, at.invariant, more))
 
 pub returns : goal.returns
 returns c =
-    let text = c.args.text.now in
-    let at = c.args.at in
-    let run = c.args.run in
-    let rest = c.unwrap_or-rest.result.now in
-    let rest_is : rest ≡ drop at text =
-    got text at (length text) _ _ c.unwrap_or-rest.result c.get.ensures.lookup (omega arith) refl c.unwrap_or-rest.ensures
-    ∙ take_all (length text - at) (drop at text) (omega (arith, length-drop at text)) in
-    let count_is = count_from_yields_List c.take_while.result _ c.count.ensures.ran (YieldsList-from_take_while _ (λ b. goes_on run (kind_of b)) (YieldsList-from_slice rest cc) c.take_while.ensures.closure c.take_while.ensures.done (λ x b q k. search (rules, tests))) in
-    rw (count_is ∙ run_taken run rest, rest_is) refl
+    let at = c.loop-i in
+    let args = c.args in
+    c.max.ensures ∙ run_past args.run args.text.now args.at at.i at.invariant c.loop-i-test.false at.auto.i-end
