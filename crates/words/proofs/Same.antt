@@ -1,9 +1,9 @@
--- Two words that are the same, as an equation, and what it says of their length and of two of their bytes.
+-- The comparison of two words as a Bool, and as an equation, and what it says of their length and of two of their bytes.
 use Prim.Native.Nat.{ℕ}
-use mathlib.Core.Path.{◌≡◌, refl, ap}
+use mathlib.Core.Path.{◌≡◌, refl, sym, ap}
 use mathlib.Core.Bool.{Bool, true, false, ◌&&◌}
 use mathlib.Core.List.{List, [], ◌∷◌}
-use borrow.Author.Tests.{eqb-true}
+use borrow.Author.Tests.{eqb-true, eq-eqb}
 use lib.ListN.{length, get_or}
 use lib.Dec.{eqb}
 use Rattle.words.specs.Names.{same_bytes}
@@ -26,6 +26,20 @@ same_of (x ∷ xs) (y ∷ ys) e =
     let first : x ≡ y = eqb-true x y (both_first (eqb x y) (same_bytes xs ys) e) in
     let others : xs ≡ ys = same_of xs ys (both_second (eqb x y) (same_bytes xs ys) e) in
     cc
+
+same_self : (a : List ℕ) → same_bytes a a ≡ true
+unfolding same_bytes
+same_self [] = refl
+same_self (x ∷ xs) = simp (eq-eqb x x refl, same_self xs)
+
+-- a Bool that says whether two words are equal is the definition's
+pub same_is : (r : Bool) (a b : List ℕ) → (r ≡ true → a ≡ b) → (a ≡ b → r ≡ true) → r ≡ same_bytes a b
+same_is r a b f g = by_cases r (same_bytes a b) (λ e. rw (f e) (same_self b)) (λ e. g (same_of a b e))
+  where
+    by_cases : (r s : Bool) → (r ≡ true → s ≡ true) → (s ≡ true → r ≡ true) → r ≡ s
+    by_cases true s f g = sym (f refl)
+    by_cases false true f g = g refl
+    by_cases false false f g = refl
 
 -- words that are the same are as long
 pub same_long : (a b : List ℕ) → same_bytes a b ≡ true → length a ≡ length b
