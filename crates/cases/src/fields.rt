@@ -24,6 +24,16 @@ const ROWS: [Row; 8] = [
     Row::Accepted,
 ];
 
+// What a thread that goes on is in the middle of while this field, which it does not use, is 1, and while it is its highest bit: another
+// kind of doing in each of the six cases, all but the last two.
+fn doings(field: Field) -> [Doing; 2] {
+    match field {
+        Field::Slot => [Doing::Loaded, Doing::Published],
+        Field::Link => [Doing::Draining, Doing::Look],
+        Field::Tag => [Doing::Swap, Doing::Sweeping],
+    }
+}
+
 impl Row {
     fn due(self) -> Option<Line> {
         match self {
@@ -41,8 +51,9 @@ impl Row {
         }
     }
 
-    // Where the thread is busy, a case for each kind of doing. Otherwise one that is wrong by one and one by much; of slots that are
-    // not protected, one of each kind. Of calls that are accepted there is one, but of swap a second that goes without a slot.
+    // Where 26 is due, and where a go on is accepted, a case for each kind of doing. Otherwise one that is wrong by one and one by much;
+    // of slots that are not protected, one of each kind. Of other calls that are accepted there is one, but of swap a second that goes
+    // without a slot.
     fn count(self, table: &mut Table<8, 7>, place: usize, column: usize, operation: Operation) {
         let case = Case {
             due: self.due(),
@@ -59,6 +70,16 @@ impl Row {
             (Row::Refused(Line::Busy), _) | (Row::Accepted, Operation::GoOn) => {
                 for doing in Doing::BUSY {
                     table.count_each(place, column, move |z| Case { doing, ..case }.is_shown(z));
+                }
+            }
+            (Row::Unused(field), Operation::GoOn) => {
+                let [small, large] = doings(field);
+                for (doing, far) in [(small, false), (large, true)] {
+                    table.count_each(
+                        place,
+                        column,
+                        move |z| Case { doing, far, ..case }.is_shown(z),
+                    );
                 }
             }
             (Row::Unused(_) | Row::Refused(_), _) | (Row::Accepted, Operation::Swap) => {

@@ -49,7 +49,7 @@ impl<const ROWS: usize, const COLUMNS: usize> Table<ROWS, COLUMNS> {
 
     // A case in each of 24 settings: T from 2 to 7 and H from 1 to 4, so that there is an entry beyond each of them and a second
     // one of each kind.
-    pub fn count_each<F: Fn(Setting) -> bool>(&mut self, row: usize, column: usize, shows: F)
+    pub(crate) fn count_each<F: Fn(Setting) -> bool>(&mut self, row: usize, column: usize, shows: F)
         requires { F.IsAlwaysCallable shows }
     {
         for threads in 2..=7 {
