@@ -1,4 +1,5 @@
 // Tells of an input how its text ends.
+ghost use Rattle.std.specs.Prelude.{◌≡◌, ◌-◌, ◌≤◌, length, drop};
 
 // How many lines a text has: each ends with a newline.
 fn count_lines(text: &[u8]) -> usize {
@@ -6,7 +7,10 @@ fn count_lines(text: &[u8]) -> usize {
 }
 
 // The last line: what comes after the last newline that has a byte after it, or the whole text.
-fn last_line(text: &[u8]) -> &[u8] {
+fn last_line(text: &[u8]) -> &[u8]
+    ensures within { length result.now ≤ length text.now }
+    ensures end { result.now ≡ drop (length text.now - length result.now) text.now }
+{
     let Some((_, front)) = text.split_last() else {
         return text;
     };
