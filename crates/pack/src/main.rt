@@ -16,6 +16,11 @@ const TEXT: usize = 1048577;
 // The sizes and 65,535 steps are 65,536 records.
 const RECORDS: usize = 655360;
 
+// What pack says of a text that is too long, and of one step too many, speaks of these numbers.
+const _: () = prove!(TEXT == 1048576 + 1);
+
+const _: () = prove!(RECORDS == 10 * (1 + 65535));
+
 fn room<const N: usize>() -> [u8; N]
     ensures { length result ≡ N }
 {
