@@ -19,11 +19,14 @@ use Rattle.machine.specs.declared.Answer.{Answer}
 use Rattle.machine.specs.Answers as machine
 use Rattle.reasons.specs.Numbers as reasons
 use Rattle.records.specs.declared.Malformed.{Malformed}
+use Rattle.records.specs.declared.NoRoom.{NoRoom}
+use Rattle.records.specs.Rest.{rest_of}
 use Rattle.text.specs.declared.page.Page.{Page}
 use Rattle.text.specs.Decimal.{decimal}
 use Rattle.text.specs.Fields.{joined}
 use Rattle.text.specs.Words.{filled}
 use Rattle.text.specs.Written.{place_after, buffer_after}
+use Rattle.text.specs.Paged.{PutOn}
 use Rattle.schedule.specs.declared.Stop.{Stop}
 use Rattle.schedule.specs.declared.Stop.TheVariants as stop
 use Rattle.schedule.specs.Opening.{opened_of}
@@ -37,7 +40,7 @@ use Rattle.words.specs.declared.Run.{Run}
 use Rattle.words.specs.Words.{run_of, word_at, bytes_of}
 use Rattle.words.specs.Numbers.{byte_of}
 use Rattle.words.specs.Fields.{operation_of, byte_or_zero, slot_of, tag_of}
-use Rattle.script.specs.Packing.{put, pack_of}
+use Rattle.script.specs.Packing.{no_room, put, pack_of}
 
 -- "the result is f of the argument" allows one result
 abbrev pub Once : {A B : Type 0} → (A → B) → Type 0
@@ -70,6 +73,9 @@ pub pack_once :
     (text : List ℕ) → LentOnce (λ buffer. (pack_of (length buffer) text).said) (λ buffer. put 0 (pack_of (length buffer) text).bytes buffer)
 pack_once text = lent_once _ _
 
+pub fault_from_once : Once {A = NoRoom} (λ _. no_room)
+fault_from_once = allowed_once _
+
 -- ---- text: each puts bytes into a lent buffer at a place
 
 abbrev pub PutOnce : ℕ → List ℕ → Type 0
@@ -83,6 +89,19 @@ put_line_once numbers place = lent_once _ _
 
 pub put_filled_once : (template numbers : List ℕ) → PutOnce (3 * length template) (filled template numbers)
 put_filled_once template numbers place = lent_once _ _
+
+-- the same of pages: what a page is allowed to be after bytes were put on it has one place and one content
+pub put_on_once :
+    (room : ℕ) (bytes : List ℕ) (before after after' : Page)
+    → PutOn room bytes before after → PutOn room bytes before after'
+    → (after.at ≡ after'.at) × (after.out.now ≡ after'.out.now)
+put_on_once room bytes before after after' p p' =
+    lent_once (place_after room bytes before.at) (buffer_after room bytes before.at) before.out.now after.at after'.at after.out.now after'.out.now
+    (p.put.next, p.put.buffer) (p'.put.next, p'.put.buffer)
+
+-- a new page has the place that was asked for and the bytes of the buffer that is lent to it
+pub page_new_once : (at : ℕ) → LentOnce (λ (_ : List ℕ). at) (λ bytes. bytes)
+page_new_once at = lent_once _ _
 
 pub place_once : Once (λ (page : Page). page.at)
 place_once = allowed_once _
@@ -246,6 +265,10 @@ pub wide_once : Once {A = ℕ} (λ x. x)
 wide_once = allowed_once _
 
 -- ---- the calls of a run, one after the other
+
+-- no call has come, and what is left are the bytes after the input's first record
+pub calls_new_once : LentOnce {A = List ℕ} {B = ℕ} (λ _. 0) rest_of
+calls_new_once = lent_once _ _
 
 -- what stands next, how many calls came then, and the bytes that are left
 pub calls_next_once :
